@@ -1,0 +1,9 @@
+pub mod Difference
+pub mod Linear
+pub mod Integers
+pub mod Ring
+pub mod Bits
+pub mod Floor
+pub mod Sum
+pub mod Lists
+pub mod Tests

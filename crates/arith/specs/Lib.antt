@@ -1,0 +1,4 @@
+pub mod Floor
+pub mod Lists
+pub mod Sum
+pub mod Tests

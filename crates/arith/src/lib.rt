@@ -1,0 +1,24 @@
+// Signed fixed-point arithmetic: floor division, and rounding to the nearest integer.
+
+ghost use mathlib.Core.Path.{_≡_};
+ghost use Prim.Native.Nat.{_^_, _≤_};
+ghost use lib.IntN.{pos, natAbs};
+ghost use lib.Signed.{_<ℤ_, _≤ℤ_};
+ghost use Rattle.arith.specs.Floor.{floorDiv, near};
+
+// The floor of a / b, from the division that truncates: one less where that left a negative remainder.
+pub fn floor_div(a: i64, b: i64) -> i64
+    requires { ⌜ pos 0 <ℤ b ⌝ }
+    ensures { λ r. ⌜ r ≡ floorDiv a (natAbs b) ⌝ }
+{
+    let q = a / b;
+    if a % b < 0 { q - 1 } else { q }
+}
+
+// a / b, rounded to the nearest integer: the one rounding rule of levels, values, fades and outputs.
+pub fn near(a: i64, b: i64) -> i64
+    requires { ⌜ natAbs a ≤ 2 ^ 61 ⌝ ∗ ⌜ pos 0 <ℤ b ⌝ ∗ ⌜ b ≤ℤ pos (2 ^ 32) ⌝ }
+    ensures { λ r. ⌜ r ≡ near a (natAbs b) ⌝ }
+{
+    floor_div(2 * a + b, 2 * b)
+}
