@@ -6,11 +6,16 @@ use native.Mathlib.Nat.{add-zero, add-suc, not-suc-le-zero}
 use native.Mathlib.Numerals.{add-one}
 use native.Mathlib.Decide.{ℕ-discrete}
 use native.Mathlib.Omega.{arith}
-use borrow.Author.Tests.{eqb-true, eqb-false, eq-eqb, ne-eqb}
+use borrow.Author.Tests.{eqb-true, lt-ltb, le-ltb, lt-leb, le-leb, eq-eqb, ne-eqb, not-true, not-false}
+use lib.Dec.{eqb}
 use lib.IntN.{ℤ, pos, negsuc, natAbs}
 use lib.Signed.{leZ, ltZ, _≤ℤ_, _<ℤ_}
+use mir.Syntax.{Width}
+use mir.Val.{SFits, toZ, ofZ}
+use mir.ValLaws.{toZ-ofZ}
 use Rattle.arith.specs.Tests.{eqZ, within, every}
 use Rattle.arith.proofs.Linear.{linear, le-yes}
+use Rattle.arith.proofs.Integers.{abs-≤}
 
 -- ---- both of two tests
 
@@ -24,6 +29,14 @@ pub &&-right : (s t : Bool) → s && t ≡ true → t ≡ true
 
 pub &&-both : {s t : Bool} → s ≡ true → t ≡ true → s && t ≡ true
 &&-both e f = rw (e, f)
+
+-- ---- a test that a function made: its result t is the definition's u, and the code looked at `!t`
+
+pub test-fails : {t u : Bool} → t ≡ u → not t ≡ true → u ≡ false
+test-fails {t} e h = sym e ∙ not-true t h
+
+pub test-holds : {t u : Bool} → t ≡ u → not t ≡ false → u ≡ true
+test-holds {t} e h = sym e ∙ not-false t h
 
 -- ---- equal integers
 
@@ -42,12 +55,23 @@ eqZ-true (pos m) (negsuc n) e = let z : _≡_ {A = ℕ} 0 1 = cc in absurd (omeg
 eqZ-true (negsuc m) (pos n) e = let z : _≡_ {A = ℕ} 0 1 = cc in absurd (omega arith)
 eqZ-true (negsuc m) (negsuc n) e = ap negsuc (eqb-true m n e)
 
+pub eqZ-false : (x y : ℤ) → eqZ x y ≡ false → x ≡ y → ⊥
+eqZ-false x y e h = let t = eqZ-yes h in let z : _≡_ {A = ℕ} 0 1 = cc in omega arith
+
 pub eqZ-no : (x y : ℤ) → (x ≡ y → ⊥) → eqZ x y ≡ false
 unfolding eqZ
 eqZ-no (pos m) (pos n) h = ne-eqb m n (λ e. h (ap pos e))
 eqZ-no (pos m) (negsuc n) h = refl
 eqZ-no (negsuc m) (pos n) h = refl
 eqZ-no (negsuc m) (negsuc n) h = ne-eqb m n (λ e. h (ap negsuc e))
+
+-- the code compares bits
+pub eqb-bits : (w : Width) (x y : ℤ) → SFits w x → SFits w y → eqb (ofZ w x) (ofZ w y) ≡ eqZ x y
+eqb-bits w x y f g = go (eqZ x y) refl
+  where
+    go : (t : Bool) → eqZ x y ≡ t → eqb (ofZ w x) (ofZ w y) ≡ t
+    go true e = eq-eqb (ofZ w x) (ofZ w y) (ap (ofZ w) (eqZ-true x y e))
+    go false e = ne-eqb (ofZ w x) (ofZ w y) (λ d. eqZ-false x y e (sym (toZ-ofZ w x f) ∙ ap (toZ w) d ∙ toZ-ofZ w y g))
 
 -- ---- every index below n
 
@@ -107,3 +131,18 @@ every-rows (suc m) n f =
 
 pub within-true : (lo hi x : ℤ) → within lo hi x ≡ true → (lo ≤ℤ x) × (x ≤ℤ hi)
 within-true lo hi x e = (le-yes (&&-left (leZ lo x) (leZ x hi) e), le-yes (&&-right (leZ lo x) (leZ x hi) e))
+
+-- of a number that is not negative
+pub within-size : (lo hi : ℕ) (x : ℤ) → within (pos lo) (pos hi) x ≡ true → (lo ≤ natAbs x) × (natAbs x ≤ hi) × (x ≡ pos (natAbs x))
+within-size lo hi (pos n) e =
+    let b = within-true (pos lo) (pos hi) (pos n) e in
+    (omega (arith, simp linear at (b .0)), omega (arith, simp linear at (b .1)), refl)
+within-size lo hi (negsuc n) e = absurd (omega (arith, simp linear at (within-true (pos lo) (pos hi) (negsuc n) e .0)))
+
+-- −(lo + 1) ≤ x ≤ lo
+pub within-half : (h : ℕ) (x : ℤ) → within (negsuc h) (pos h) x ≡ true → natAbs x ≤ h + 1
+within-half h x e = abs-≤ x (simp linear (omega (arith, simp linear at (within-true (negsuc h) (pos h) x e))))
+
+-- ---- the tests of a branch on unsigned numbers, as the definitions state them
+
+pub ruleset tests = (lt-ltb, le-ltb, lt-leb, le-leb, eq-eqb, ne-eqb)

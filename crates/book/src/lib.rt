@@ -1,9 +1,92 @@
-// The filter book: what its words mean, and the check that accepts it or gives its refusal number.
+// The filter book: five sizes, impulses and differences by phase, level taps and decimation taps, as signed words.
+// `check` accepts a book or gives the number that turns it away.
 
+ghost use mathlib.Core.Path.{_≡_};
+ghost use Prim.Native.Nat.{_^_, _≤_, _<_};
+ghost use lib.IntN.{natAbs};
+ghost use lib.ListN.{length};
+ghost use Rattle.arith.specs.Lists.{at};
+ghost use Rattle.book.specs.Book.{sizesOf};
+ghost use Rattle.book.specs.Check.{bookNumber};
+
+mod differences; // number 6
+mod ranges; // numbers 2 and 4
+mod sums; // number 7
+
+// The sizes at a book's head, by document 01's letters: N, M, A, B and F.
 pub struct Sizes {
+    // N: taps per phase
     pub taps: usize,
+    // M: phases
     pub phases: usize,
+    // A: level taps beside the centre
     pub reach: usize,
+    // B: decimation taps beside the centre
     pub decimation: usize,
+    // F: points of a fade
     pub fade: usize,
+}
+
+// The absolute value.
+fn magnitude(x: i32) -> usize
+    ensures { λ r. ⌜ r ≡ natAbs x ⌝ }
+{
+    let y = x as i64;
+    if y < 0 { (0 - y) as usize } else { y as usize }
+}
+
+// The absolute value of a word.
+fn word_size(words: &[i32], i: usize) -> usize
+    requires { ⌜ i < length (now words) ⌝ }
+    ensures { λ r. ⌜ (r ≡ natAbs (at (now (words .entry)) i)) × (r ≤ 2 ^ 31) ⌝ }
+{
+    magnitude(words[i])
+}
+
+// The sizes of a book that has them.
+pub fn read_sizes(book: &[i32]) -> Sizes
+    requires { ⌜ 5 ≤ length (now book) ⌝ }
+    ensures { λ r. ⌜ r ≡ sizesOf (now (book .entry)) ⌝ }
+{
+    Sizes {
+        taps: word_size(book, 0),
+        phases: word_size(book, 1),
+        reach: word_size(book, 2),
+        decimation: word_size(book, 3),
+        fade: word_size(book, 4),
+    }
+}
+
+// 0 where the book is accepted, else the first of the numbers 1 to 7 whose condition holds.
+pub fn check(book: &[i32]) -> u32
+    ensures { λ r. ⌜ r ≡ bookNumber (now (book .entry)) ⌝ }
+{
+    if book.len() < 5 {
+        return 1;
+    }
+    if !ranges::sizes_in_range(book) {
+        return 2;
+    }
+    let s = read_sizes(book);
+    let taps = s.taps;
+    let phases = s.phases;
+    let array = phases * taps;
+    let level_taps = 5 + array + array;
+    let decimation_taps = level_taps + (s.reach + 1);
+    if book.len() != decimation_taps + (s.decimation + 1) {
+        return 3;
+    }
+    if !ranges::coefficients_in_range(book, array) {
+        return 4;
+    }
+    if book[5] != 0 {
+        return 5;
+    }
+    if !differences::differences_right(book, array, taps) {
+        return 6;
+    }
+    if !sums::sums_in_range(book, phases, taps, level_taps, decimation_taps) {
+        return 7;
+    }
+    0
 }

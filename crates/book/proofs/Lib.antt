@@ -1,0 +1,4 @@
+pub mod Numbers
+pub mod Bounds
+pub mod Parts
+pub mod Runs

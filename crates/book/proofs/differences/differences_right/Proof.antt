@@ -1,0 +1,117 @@
+-- `book::differences::differences_right` meets its contract, which is one of three runs of words (`Runs`). Assumes nothing.
+use mathlib.Core.Bool.{_&&_}
+use mathlib.Core.List.{List}
+use mathlib.Core.Path.{_≡_}
+use Prim.Native.Nat.{_+_, _-_, _≤_}
+use native.Mathlib.Omega.{arith}
+use lib.IntN.{ℤ, pos, _-ℤ_}
+use lib.ListN.{length}
+use Rattle.arith.specs.Lists.{at}
+use Rattle.arith.specs.Tests.{eqZ, every}
+use Rattle.arith.proofs.Tests.{test-fails, test-holds}
+use Rattle.book.specs.Book.{sizesOf}
+use Rattle.book.specs.Check.{differencesRight}
+use Rattle.book.proofs.Bounds.{bounded, array-low, array-high, length-is}
+use Rattle.book.proofs.Runs.{rightAt, differences-runs}
+use Rattle.book.proofs.differences.differences_right.Statement.{statement}
+use Rattle.book.proofs.differences.differences_right.Tie as tie
+
+module _ (c : tie.Start) where
+  abbrev b : List ℤ
+  b = c .args .book .now
+
+  -- the book holds both arrays, and a phase is no longer than one of them
+  room : (5 + c .args .array + c .args .array + 2 ≤ length b) × (2 ≤ c .args .taps) × (c .args .taps ≤ c .args .array) × (c .args .array ≤ 3072)
+  room =
+      let f = bounded b (c .pre .0 .0) in
+      omega (arith, length-is (sizesOf b), array-low f, array-high f, f .taps-low)
+
+  -- the rule, over the code's numbers
+  rule : differencesRight b
+      ≡ every (c .args .array - c .args .taps) (rightAt b (5 + c .args .array) (5 + c .args .taps) 5)
+      && (every (c .args .taps - 1) (rightAt b (5 + c .args .array + (c .args .array - c .args .taps)) 6 (5 + (c .args .array - c .args .taps)))
+      && eqZ (at b (4 + c .args .array + c .args .array)) (pos 0 -ℤ at b (4 + c .args .array)))
+  rule = differences-runs b (c .args .array) (c .args .taps) (bounded b (c .pre .0 .0)) (c .pre .1 .0) (c .pre .1 .1)
+
+sub-last : tie.Need-sub-last
+sub-last c = omega (arith, room c)
+
+add-run-right : tie.Need-add-run-right
+add-run-right c = omega (arith, room c)
+
+add-run-right-2 : tie.Need-add-run-right-2
+add-run-right-2 c = omega (arith, room c)
+
+run-right-requires : tie.Need-run-right-requires
+run-right-requires c κs = omega (arith, room c)
+
+returns : tie.Need-returns
+returns c = simp (rule (c .before .before), test-fails (c .before .run-right .ensures) (c .if1 .taken))
+
+add-run-right-3 : tie.Need-add-run-right-3
+add-run-right-3 c = omega (arith, room (c .before .before))
+
+add-run-right-4 : tie.Need-add-run-right-4
+add-run-right-4 c = omega (arith, room (c .before .before))
+
+add-run-right-5 : tie.Need-add-run-right-5
+add-run-right-5 c = omega (arith, room (c .before .before))
+
+sub-run-right : tie.Need-sub-run-right
+sub-run-right c = omega (arith, room (c .before .before))
+
+run-right-requires-2 : tie.Need-run-right-requires-2
+run-right-requires-2 c κs = omega (arith, room (c .before .before))
+
+returns-2 : tie.Need-returns-2
+returns-2 c =
+    let e1 = c .before .before in
+    simp (
+      rule (e1 .before .before),
+      test-holds (e1 .before .run-right .ensures) (e1 .if1 .left),
+      test-fails (c .before .run-right2 .ensures) (c .if2 .taken),
+    )
+
+add-word-negated : tie.Need-add-word-negated
+add-word-negated c = omega (arith, room (c .before .before .before .before))
+
+add-word-negated-2 : tie.Need-add-word-negated-2
+add-word-negated-2 c = omega (arith, room (c .before .before .before .before))
+
+add-word-negated-3 : tie.Need-add-word-negated-3
+add-word-negated-3 c = omega (arith, room (c .before .before .before .before))
+
+word-negated-requires : tie.Need-word-negated-requires
+word-negated-requires c κs = omega (arith, room (c .before .before .before .before))
+
+returns-3 : tie.Need-returns-3
+returns-3 c =
+    let e2 = c .before in
+    let e1 = e2 .before .before in
+    simp (
+      rule (e1 .before .before),
+      test-holds (e1 .before .run-right .ensures) (e1 .if1 .left),
+      test-holds (e2 .before .run-right2 .ensures) (e2 .if2 .left),
+    )
+    (c .word-negated .ensures)
+
+pub differences-right-spec : {M : Type 1} → statement M
+differences-right-spec =
+    tie.close
+    (tie.spec
+    sub-last
+    add-run-right
+    add-run-right-2
+    run-right-requires
+    returns
+    add-run-right-3
+    add-run-right-4
+    add-run-right-5
+    sub-run-right
+    run-right-requires-2
+    returns-2
+    add-word-negated
+    add-word-negated-2
+    add-word-negated-3
+    word-negated-requires
+    returns-3)

@@ -1,0 +1,71 @@
+// Number 7: sums of absolute values.
+
+ghost use mathlib.Core.Bool.{true};
+ghost use mathlib.Core.Path.{_≡_};
+ghost use Prim.Native.Nat.{_≤_};
+ghost use lib.Dec.{leb};
+ghost use lib.ListN.{length};
+ghost use Rattle.arith.specs.Tests.{every};
+ghost use Rattle.book.specs.Book.{sizesOf, levelTapsAt, decimationTapsAt, bookLength};
+ghost use Rattle.book.specs.Check.{sizesInRange, phaseSum, tapSum, sumsInRange};
+use crate::word_size;
+
+// Whether every phase's sum is at most 65536. The check stops at the first phase whose sum is too large.
+fn phases_in_range(book: &[i32], phases: usize, taps: usize) -> bool
+    requires { ⌜ (sizesInRange (now book) ≡ true) × (length (now book) ≡ bookLength (sizesOf (now book))) ⌝ }
+    requires { ⌜ (phases ≡ sizesOf (now book) .phases) × (taps ≡ sizesOf (now book) .taps) ⌝ }
+    ensures { λ r. ⌜ r ≡ every phases (λ q. leb (phaseSum (now (book .entry)) q) 65536) ⌝ }
+{
+    let mut right = true;
+    let mut q = 0;
+    'phases: while q < phases {
+        let mut sum = 0;
+        let mut k = 0;
+        while k < taps {
+            sum += word_size(book, 5 + (q * taps + k));
+            k += 1;
+        }
+        if 65536 < sum {
+            right = false;
+            break 'phases;
+        }
+        q += 1;
+    }
+    right
+}
+
+// |h[0]| + 2 × (|h[1]| + .. + |h[A]|)
+fn tap_sum(taps: &[i32]) -> usize
+    requires { ⌜ (1 ≤ length (now taps)) × (length (now taps) ≤ 41) ⌝ }
+    ensures { λ r. ⌜ r ≡ tapSum (now (taps .entry)) ⌝ }
+{
+    let mut sum = 0;
+    let mut k = 1;
+    while k < taps.len() {
+        sum += word_size(taps, k);
+        k += 1;
+    }
+    word_size(taps, 0) + 2 * sum
+}
+
+// Number 7. The level taps lie from place `level` on, the decimation taps from place `decimation` on.
+pub fn sums_in_range(
+    book: &[i32],
+    phases: usize,
+    taps: usize,
+    level: usize,
+    decimation: usize,
+) -> bool
+    requires { ⌜ (sizesInRange (now book) ≡ true) × (length (now book) ≡ bookLength (sizesOf (now book))) ⌝ }
+    requires { ⌜ (phases ≡ sizesOf (now book) .phases) × (taps ≡ sizesOf (now book) .taps) ⌝ }
+    requires { ⌜ (level ≡ levelTapsAt (sizesOf (now book))) × (decimation ≡ decimationTapsAt (sizesOf (now book))) ⌝ }
+    ensures { λ r. ⌜ r ≡ sumsInRange (now (book .entry)) ⌝ }
+{
+    if !phases_in_range(book, phases, taps) {
+        return false;
+    }
+    if 32768 < tap_sum(&book[level..decimation]) {
+        return false;
+    }
+    tap_sum(&book[decimation..]) <= 32768
+}

@@ -1,0 +1,208 @@
+-- `levels::halving::inner_sum` meets its contract. The loop's invariant: the sum's bits are those of the sum over the taps below k. Assumes nothing.
+use mathlib.Core.Path.{_≡_, sym, ap}
+use mathlib.Core.List.{List}
+use Prim.Native.Nat.{ℕ, _+_, _-_, _≤_}
+use native.Mathlib.Omega.{arith}
+use lib.IntN.{ℤ, _+ℤ_, _*ℤ_}
+use lib.ListN.{length}
+use mir.Syntax.{w32, w64}
+use mir.Val.{SFits, ofZ}
+use mir.Facts.{sfits-widen}
+use Rattle.arith.specs.Lists.{at}
+use Rattle.arith.proofs.Bits.{reads}
+use Rattle.levels.proofs.Around.{before-inside, after-inside, around, around-one, around-more, around-fits, first-fits, word-fits, pair-fits, tap-fits, tapped-fits}
+use Rattle.levels.proofs.halving.inner_sum.Statement.{statement}
+use Rattle.levels.proofs.halving.inner_sum.Tie as tie
+
+abbrev Inv-loop : tie.InvT-loop
+Inv-loop level taps centre sum₀ k₀ sum k = (1 ≤ k) × (k ≤ length taps) × (sum ≡ ofZ w64 (around taps level centre k))
+
+abbrev μ-loop : tie.MeasureT-loop
+μ-loop level taps centre sum₀ k₀ sum k = length taps - k
+
+module _ (s : tie.Start Inv-loop μ-loop) where
+  abbrev level : List ℤ
+  level = s .args .level .now
+
+  abbrev taps : List ℤ
+  taps = s .args .taps .now
+
+  abbrev centre : ℕ
+  centre = s .args .centre
+
+  word : (i : ℕ) → SFits w32 (at level i)
+  word i = word-fits (at level i) (s .pre .1 i)
+
+  partial : (k : ℕ) → k ≤ length taps → SFits w64 (around taps level centre k)
+  partial = around-fits taps (s .pre .0 .1) level centre (s .pre .1)
+
+  first-tap : SFits w32 (at taps 0)
+  first-tap = tap-fits taps (s .pre .0 .1) 0 (s .pre .0 .0)
+
+  first : SFits w64 (at taps 0 *ℤ at level centre)
+  first = first-fits taps (s .pre .0 .1) level centre (s .pre .1) (s .pre .0 .0)
+
+-- in a turn
+module _ (t : tie.In-loop Inv-loop μ-loop) where
+  abbrev s : tie.Start Inv-loop μ-loop
+  s = t .before .before .before .before
+
+  abbrev k : ℕ
+  k = t .before .loop .k
+
+  abbrev left : ℤ
+  left = at (level s) (centre s - k)
+
+  abbrev right : ℤ
+  right = at (level s) (centre s + k)
+
+  tap : SFits w32 (at (taps s) k)
+  tap = tap-fits (taps s) (s .pre .0 .1) k (t .loop-test .taken)
+
+  pair : SFits w64 (left +ℤ right)
+  pair = pair-fits left right (s .pre .1 (centre s - k)) (s .pre .1 (centre s + k))
+
+  product : SFits w64 (at (taps s) k *ℤ (left +ℤ right))
+  product = tapped-fits (taps s) (s .pre .0 .1) k (t .loop-test .taken) left right (s .pre .1 (centre s - k)) (s .pre .1 (centre s + k))
+
+  so-far : SFits w64 (around (taps s) (level s) (centre s) k)
+  so-far = partial s k (omega arith)
+
+  more : around (taps s) (level s) (centre s) (k + 1) ≡ around (taps s) (level s) (centre s) k +ℤ at (taps s) k *ℤ (left +ℤ right)
+  more =
+      around-more (taps s) (level s) (centre s) k (t .before .loop .inv .0) (sym (before-inside (level s) (centre s) k (omega arith)))
+      (sym (after-inside (level s) (centre s) k))
+
+  one-more : SFits w64 (around (taps s) (level s) (centre s) k +ℤ at (taps s) k *ℤ (left +ℤ right))
+  one-more = rw (← more) (partial s (k + 1) (omega arith))
+
+shared-slice-copy-out-sum : tie.Need-shared-slice-copy-out-sum Inv-loop μ-loop
+shared-slice-copy-out-sum c = omega arith
+
+cast-sum : tie.Need-cast-sum Inv-loop μ-loop
+cast-sum c = let f = first-tap (c .before) in simp (reads, f) (sfits-widen tt f)
+
+mul-sum : tie.Need-mul-sum Inv-loop μ-loop
+mul-sum c = omega arith
+
+shared-slice-copy-out-sum-2 : tie.Need-shared-slice-copy-out-sum-2 Inv-loop μ-loop
+shared-slice-copy-out-sum-2 c = omega arith
+
+cast-sum-2 : tie.Need-cast-sum-2 Inv-loop μ-loop
+cast-sum-2 c =
+    let s = c .before .before in
+    simp (reads, word s (centre s)) (sfits-widen tt (word s (centre s)))
+
+mul-sum-2 : tie.Need-mul-sum-2 Inv-loop μ-loop
+mul-sum-2 c = let s = c .before .before in simp (reads, first-tap s, word s (centre s)) (first s)
+
+loop-holds : tie.Need-loop-holds Inv-loop μ-loop
+loop-holds c =
+    let s = c .before .before in
+    (omega arith, omega arith, simp (reads, first-tap s, word s (centre s)) (ap (ofZ w64) (sym (around-one (taps s) (level s) (centre s)))))
+
+mul-sum-3 : tie.Need-mul-sum-3 Inv-loop μ-loop
+mul-sum-3 c = omega arith
+
+shared-slice-copy-out-sum-3 : tie.Need-shared-slice-copy-out-sum-3 Inv-loop μ-loop
+shared-slice-copy-out-sum-3 c = omega arith
+
+cast-sum-3 : tie.Need-cast-sum-3 Inv-loop μ-loop
+cast-sum-3 c = let f = tap (c .before) in simp (reads, f) (sfits-widen tt f)
+
+sub-sum : tie.Need-sub-sum Inv-loop μ-loop
+sub-sum c = omega arith
+
+mul-sum-4 : tie.Need-mul-sum-4 Inv-loop μ-loop
+mul-sum-4 c = omega arith
+
+shared-slice-copy-out-sum-4 : tie.Need-shared-slice-copy-out-sum-4 Inv-loop μ-loop
+shared-slice-copy-out-sum-4 c = omega arith
+
+cast-sum-4 : tie.Need-cast-sum-4 Inv-loop μ-loop
+cast-sum-4 c =
+    let t = c .before .before in
+    let f = word (s t) (centre (s t) - k t) in simp (reads, f) (sfits-widen tt f)
+
+add-sum : tie.Need-add-sum Inv-loop μ-loop
+add-sum c = omega arith
+
+mul-sum-5 : tie.Need-mul-sum-5 Inv-loop μ-loop
+mul-sum-5 c = omega arith
+
+shared-slice-copy-out-sum-5 : tie.Need-shared-slice-copy-out-sum-5 Inv-loop μ-loop
+shared-slice-copy-out-sum-5 c = omega arith
+
+cast-sum-5 : tie.Need-cast-sum-5 Inv-loop μ-loop
+cast-sum-5 c =
+    let t = c .before .before .before in
+    let f = word (s t) (centre (s t) + k t) in simp (reads, f) (sfits-widen tt f)
+
+add-sum-2 : tie.Need-add-sum-2 Inv-loop μ-loop
+add-sum-2 c =
+    let t = c .before .before .before in
+    simp (reads, word (s t) (centre (s t) - k t), word (s t) (centre (s t) + k t)) (pair t)
+
+mul-sum-6 : tie.Need-mul-sum-6 Inv-loop μ-loop
+mul-sum-6 c =
+    let t = c .before .before .before in
+    simp (reads, tap t, word (s t) (centre (s t) - k t), word (s t) (centre (s t) + k t), pair t) (product t)
+
+add-sum-3 : tie.Need-add-sum-3 Inv-loop μ-loop
+add-sum-3 c =
+    let t = c .before .before .before in
+    simp (t .before .loop .inv .2, reads, tap t, word (s t) (centre (s t) - k t), word (s t) (centre (s t) + k t), pair t, product t, so-far t) (one-more t)
+
+add-k : tie.Need-add-k Inv-loop μ-loop
+add-k c = omega arith
+
+loop-less : tie.Need-loop-less Inv-loop μ-loop
+loop-less c = omega arith
+
+loop-again : tie.Need-loop-again Inv-loop μ-loop
+loop-again c =
+    let t = c .before .before .before in (
+      omega arith,
+      omega arith,
+      simp (t .before .loop .inv .2, reads, tap t, word (s t) (centre (s t) - k t), word (s t) (centre (s t) + k t), pair t, product t, so-far t)
+          (ap (ofZ w64) (sym (more t))),
+    )
+
+returns : tie.Need-returns Inv-loop μ-loop
+returns c =
+    let a = c .before in
+    let s = a .before .before .before in
+    let e : a .loop .k ≡ length (taps s) = omega arith in
+    simp (a .loop .inv .2, e, reads, partial s (length (taps s)) (omega arith))
+
+pub inner-sum-spec : {M : Type 1} → statement M
+inner-sum-spec =
+    tie.close
+    (tie.spec
+    Inv-loop
+    μ-loop
+    shared-slice-copy-out-sum
+    cast-sum
+    mul-sum
+    shared-slice-copy-out-sum-2
+    cast-sum-2
+    mul-sum-2
+    loop-holds
+    mul-sum-3
+    shared-slice-copy-out-sum-3
+    cast-sum-3
+    sub-sum
+    mul-sum-4
+    shared-slice-copy-out-sum-4
+    cast-sum-4
+    add-sum
+    mul-sum-5
+    shared-slice-copy-out-sum-5
+    cast-sum-5
+    add-sum-2
+    mul-sum-6
+    add-sum-3
+    add-k
+    loop-less
+    loop-again
+    returns)
