@@ -2,3 +2,4 @@ pub mod Numbers
 pub mod Bounds
 pub mod Parts
 pub mod Runs
+pub mod Accepted

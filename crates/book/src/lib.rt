@@ -6,7 +6,7 @@ ghost use Prim.Native.Nat.{_^_, _≤_, _<_};
 ghost use lib.IntN.{natAbs};
 ghost use lib.ListN.{length};
 ghost use Rattle.arith.specs.Lists.{at};
-ghost use Rattle.book.specs.Book.{sizesOf};
+ghost use Rattle.book.specs.Book.{sizesOf, levelTaps};
 ghost use Rattle.book.specs.Check.{bookNumber};
 
 mod differences; // number 6
@@ -89,4 +89,16 @@ pub fn check(book: &[i32]) -> u32
         return 7;
     }
     0
+}
+
+// The level taps h[0] .. h[A] of an accepted book.
+pub fn level_taps(book: &[i32]) -> &[i32]
+    requires { ⌜ bookNumber (now book) ≡ 0 ⌝ }
+    ensures { λ r. ⌜ now r ≡ levelTaps (now (book .entry)) ⌝ }
+{
+    let s = read_sizes(book);
+    let array = s.phases * s.taps;
+    let start = 5 + array + array;
+    let end = start + (s.reach + 1);
+    &book[start..end]
 }

@@ -17,6 +17,9 @@ pub record Built : Type 0 where
   pub number : ℕ
   pub store : List ℤ
 
+abbrev pub built : ℕ → List ℤ → Built
+built n words = record { number = n; store = words }
+
 -- 1 to 7 of the book, 8 of S and T, 9 of a store of so many words
 unfoldable pub storeNumber : List ℤ → ℕ → ℕ → ℕ → ℕ
 storeNumber b S T words =
@@ -28,4 +31,4 @@ storeNumber b S T words =
 unfoldable pub buildAnswer : List ℤ → List ℤ → ℕ → List ℤ → Built
 buildAnswer b samples T store =
     let n = storeNumber b (length samples) T (length store) in
-    record { number = n; store = cond (eqb n 0) (overwrite store 0 (levelsOf (levelTaps b) samples T)) store }
+    built n (cond (eqb n 0) (overwrite store 0 (levelsOf (levelTaps b) samples T)) store)

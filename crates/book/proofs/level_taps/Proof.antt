@@ -1,0 +1,90 @@
+-- `book::level_taps` meets its contract: the part that it hands back is where the definition has the taps. Assumes nothing.
+use borrow.Author.Needs.{needs}
+use mathlib.Core.List.{List}
+use mathlib.Core.Path.{_≡_, sym, ap, _∙_}
+use Prim.Native.Nat.{ℕ, _+_, _-_, _*_, _≤_}
+use native.Mathlib.Omega.{arith}
+use lib.IntN.{ℤ}
+use lib.ListN.{length}
+use Rattle.arith.specs.Lists.{part}
+use Rattle.book.specs.declared.Sizes.{Sizes}
+use Rattle.book.specs.Book.{sizesOf, differencesAt, levelTapsAt, bookLength, levelTaps}
+use Rattle.book.proofs.Accepted.{Accepted, accepted, sizes-bounded}
+use Rattle.book.proofs.Bounds.{Bounded, array-high, length-is}
+use Rattle.book.proofs.level_taps.Statement.{statement}
+use Rattle.book.proofs.level_taps.Tie as tie
+
+module _ (c : tie.After-read-sizes) where
+  abbrev b : List ℤ
+  b = c .before .args .book .now
+
+  abbrev s : Sizes
+  s = c .read-sizes .result
+
+  right : Accepted b
+  right = accepted b (c .before .pre)
+
+  -- the part lies in the book, and its place is small
+  room : (5 + s .phases * s .taps + s .phases * s .taps + (s .reach + 1) ≤ length b) × (s .phases * s .taps ≤ 3072) × (s .reach ≤ 40)
+  room =
+      let f : Bounded s = rw (c .read-sizes .ensures) (sizes-bounded b right) in
+      let l : length b ≡ bookLength s = right .lengthy ∙ ap bookLength (sym (c .read-sizes .ensures)) in
+      omega (arith, length-is s, array-high f, f .reach-high)
+
+-- as many words as the end is past the start
+many : (a n : ℕ) → a + n - a ≡ n
+many a n = omega arith
+
+read-sizes-requires : tie.Need-read-sizes-requires
+read-sizes-requires c κs = omega (arith, length-is (sizesOf (c .args .book .now)), accepted (c .args .book .now) (c .pre) .lengthy)
+
+mul-array : tie.Need-mul-array
+mul-array c = omega (arith, room (c .before))
+
+add-start : tie.Need-add-start
+add-start c = omega (arith, room (c .before))
+
+add-start-2 : tie.Need-add-start-2
+add-start-2 c = omega (arith, room (c .before))
+
+add-end : tie.Need-add-end
+add-end c = omega (arith, room (c .before .before))
+
+add-end-2 : tie.Need-add-end-2
+add-end-2 c = omega (arith, room (c .before .before))
+
+mul-result : tie.Need-mul-result
+mul-result c = omega (arith, room (c .before .before))
+
+sub-result : tie.Need-sub-result
+sub-result c = search needs
+
+part-result-start : tie.Need-part-result-start
+part-result-start c = search needs
+
+part-result-end : tie.Need-part-result-end
+part-result-end c = omega (arith, room (c .before .before))
+
+returns : tie.Need-returns
+unfolding levelTaps levelTapsAt differencesAt
+returns c =
+    let r = c .before .before .before in
+    let z = s r in
+    let start = 5 + z .phases * z .taps + z .phases * z .taps in
+    ap (λ k. part (b r) start k) (many start (z .reach + 1)) ∙ ap (λ y. part (b r) (levelTapsAt y) (y .reach + 1)) (r .read-sizes .ensures)
+
+pub level-taps-spec : {M : Type 1} → statement M
+level-taps-spec =
+    tie.close
+    (tie.spec
+    read-sizes-requires
+    mul-array
+    add-start
+    add-start-2
+    add-end
+    add-end-2
+    mul-result
+    sub-result
+    part-result-start
+    part-result-end
+    returns)
