@@ -1,10 +1,18 @@
-// Signed fixed-point arithmetic: floor division, and rounding to the nearest integer.
+// Signed fixed-point arithmetic: absolute value, floor division, and rounding to the nearest integer.
 
 ghost use mathlib.Core.Path.{_≡_};
 ghost use Prim.Native.Nat.{_^_, _≤_};
 ghost use lib.IntN.{pos, natAbs};
 ghost use lib.Signed.{_<ℤ_, _≤ℤ_};
 ghost use Rattle.arith.specs.Floor.{floorDiv, near};
+
+// The absolute value.
+pub fn magnitude(x: i32) -> u64
+    ensures { λ r. ⌜ r ≡ natAbs x ⌝ }
+{
+    let y = x as i64;
+    if y < 0 { (0 - y) as u64 } else { y as u64 }
+}
 
 // The floor of a / b, from the division that truncates: one less where that left a negative remainder.
 pub fn floor_div(a: i64, b: i64) -> i64

@@ -27,20 +27,12 @@ pub struct Sizes {
     pub fade: usize,
 }
 
-// The absolute value.
-fn magnitude(x: i32) -> usize
-    ensures { λ r. ⌜ r ≡ natAbs x ⌝ }
-{
-    let y = x as i64;
-    if y < 0 { (0 - y) as usize } else { y as usize }
-}
-
 // The absolute value of a word.
 fn word_size(words: &[i32], i: usize) -> usize
     requires { ⌜ i < length (now words) ⌝ }
     ensures { λ r. ⌜ (r ≡ natAbs (at (now (words .entry)) i)) × (r ≤ 2 ^ 31) ⌝ }
 {
-    magnitude(words[i])
+    arith::magnitude(words[i]) as usize
 }
 
 // The sizes of a book that has them.

@@ -1,4 +1,4 @@
--- `book::magnitude` meets its contract: at 64 bits the negation of any i32 fits. Assumes nothing.
+-- `arith::magnitude` meets its contract: at 64 bits the negation of any i32 fits. Assumes nothing.
 use mathlib.Core.Path.{_≡_}
 use Prim.Native.Nat.{_^_, _≤_}
 use native.Mathlib.Omega.{arith}
@@ -7,10 +7,10 @@ use lib.Signed.{_<ℤ_, yes-nonNeg, natAbs-le}
 use mir.Syntax.{w32, w64}
 use mir.Val.{SFits}
 use mir.Facts.{sfits-widen}
 use Rattle.arith.proofs.Bits.{reads}
 use Rattle.arith.proofs.Linear.{linear, signed, lt-yes, lt-no, abs-neg}
-use Rattle.book.proofs.magnitude.Statement.{statement}
-use Rattle.book.proofs.magnitude.Tie as tie
+use Rattle.arith.proofs.magnitude.Statement.{statement}
+use Rattle.arith.proofs.magnitude.Tie as tie
 
 abs-minus : (z : ℤ) → natAbs (pos 0 -ℤ z) ≡ natAbs z
 abs-minus z = simp (+ℤ-idl, abs-neg)

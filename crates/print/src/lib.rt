@@ -1,0 +1,30 @@
+// Writes numbers to standard output.
+
+// A decimal number, with a minus sign below zero.
+pub fn integer(x: i32) {
+    if x < 0 {
+        io::write_all(1, b"-");
+    }
+    io::print_decimal(1, arith::magnitude(x));
+}
+
+// A blank, and then the number.
+pub fn next_integer(x: i32) {
+    io::write_all(1, b" ");
+    integer(x);
+}
+
+// A refusal number.
+pub fn number(n: u32) {
+    io::print_decimal(1, n as u64);
+}
+
+// A blank, and then the refusal number.
+pub fn next_number(n: u32) {
+    io::write_all(1, b" ");
+    number(n);
+}
+
+pub fn end_line() {
+    io::write_all(1, b"\n");
+}
