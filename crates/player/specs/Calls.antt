@@ -1,0 +1,70 @@
+-- The answers of the player's calls: for each input the number, the voice and every output word. A refusal hands the voice back as it
+-- came (opening: the zero record) and writes no output word.
+use mathlib.Core.Bool.{cond}
+use mathlib.Core.List.{List}
+use Prim.Native.Nat.{ℕ, _^_}
+use lib.Dec.{eqb}
+use lib.IntN.{ℤ, pos}
+use lib.ListN.{length, replicate}
+use Rattle.player.specs.declared.Card.{Card}
+use Rattle.player.specs.declared.Control.{Control}
+use Rattle.player.specs.declared.Voice.{Voice}
+use Rattle.player.specs.declared.Order.{Order}
+use Rattle.player.specs.declared.Order.the-variants.{Jump, Glide}
+use Rattle.player.specs.declared.Answer.{Answer}
+use Rattle.player.specs.Rate.{rateOf}
+use Rattle.player.specs.Moves.{noGlide, noFade, freshControl, jumped, gliding, sought}
+use Rattle.player.specs.Outputs.{voiceAfter, outputs}
+use Rattle.player.specs.Refusals.{openNumber, orderNumber, seekNumber, playNumber}
+
+abbrev pub answer : ℕ → Voice → Answer
+answer n v = record { number = n; voice = v }
+
+-- 81 points of silence
+abbrev pub silence : List ℤ
+silence = replicate 81 (pos 0)
+
+-- a history word lies within ±2^29
+abbrev pub pointBound : ℕ
+pointBound = 2 ^ 29
+
+unfoldable pub zeroVoice : Voice
+zeroVoice = record { control = record { top = 0; fade = noFade 0; rate = 0; glide = noGlide; position = 0 }; history = silence }
+
+-- the fresh voice of a card
+unfoldable pub freshVoice : Card → Voice
+freshVoice card = record { control = freshControl (card .top) (rateOf (card .rate)); history = silence }
+
+unfoldable pub openAnswer : Card → Answer
+openAnswer card = let n = openNumber card in answer n (cond (eqb n 0) (freshVoice card) zeroVoice)
+
+-- the control that an order leaves
+unfoldable pub ordered : Control → Order → Control
+ordered c (Jump r) = jumped c (rateOf r)
+ordered c (Glide r count) = gliding c (rateOf r) count
+
+unfoldable pub orderAnswer : Voice → Order → Answer
+orderAnswer v o =
+    let n = orderNumber (v .control) pointBound (v .history) o in
+    answer n (cond (eqb n 0) (record { control = ordered (v .control) o; history = v .history }) v)
+
+unfoldable pub seekAnswer : Voice → ℕ → Answer
+seekAnswer v P =
+    let n = seekNumber (v .control) pointBound (v .history) P in
+    answer n (cond (eqb n 0) (record { control = sought (v .control) P; history = v .history }) v)
+
+-- what a play leaves: its number, the voice and the words of its output slice
+pub record Played : Type 0 where
+  pub number : ℕ
+  pub voice : Voice
+  pub words : List ℤ
+
+abbrev pub played : ℕ → Voice → List ℤ → Played
+played n v words = record { number = n; voice = v; words = words }
+
+-- play of an output slice, lent a book and a store and told its S
+unfoldable pub playAnswer : List ℤ → List ℤ → ℕ → Voice → List ℤ → Played
+playAnswer b store S v words =
+    let n = playNumber b store S (v .control) pointBound (v .history) (length words) in
+    let count = length words in
+    played n (cond (eqb n 0) (voiceAfter b store S v count) v) (cond (eqb n 0) (outputs b store S v count) words)

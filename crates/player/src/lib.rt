@@ -1,0 +1,49 @@
+// The driving-tone player: the records that its calls take and hand back.
+
+// The opening card: a rate, and the top level T.
+pub struct Card {
+    pub rate: f32,
+    pub top: u32,
+}
+
+// An order: a jump to a rate, or a glide to a rate over `count` outputs.
+pub enum Order {
+    Jump(f32),
+    Glide { target: f32, count: u32 },
+}
+
+// A glide under way: R0, R1, c and j. Without a glide all four are 0.
+pub struct Ramp {
+    pub start: u64,
+    pub target: u64,
+    pub count: u32,
+    pub done: u32,
+}
+
+// A fade under way: the old level, the new one and i. Without a fade both are the current level and i is 0.
+pub struct Fade {
+    pub from: u32,
+    pub to: u32,
+    pub step: u32,
+}
+
+// What moves a voice: T, the fade, R, the glide and P. It never looks at a point.
+pub struct Control {
+    pub top: u32,
+    pub fade: Fade,
+    pub rate: u64,
+    pub glide: Ramp,
+    pub position: u64,
+}
+
+// A voice: its control, and the last 81 points, newest first.
+pub struct Voice {
+    pub control: Control,
+    pub history: [i32; 81],
+}
+
+// What open, order and seek hand back: a refusal number or 0, and the voice.
+pub struct Answer {
+    pub number: u32,
+    pub voice: Voice,
+}
