@@ -2,7 +2,9 @@
 use mathlib.Core.Path.{_≡_, refl}
 use mathlib.Core.List.{List, [], _∷_, map}
 use Prim.Native.Nat.{ℕ}
+use lib.Ieee.{Float, binary32, ofBits}
 use lib.IntN.{ℤ, pos, negsuc}
+use lib.ListN.{length, replicate}
 use Rattle.arith.specs.Floor.{floorDiv, near}
 use Rattle.arith.specs.Lists.{wordAt, tabulate}
 use Rattle.arith.specs.Sum.{sum, total, sumAround}
@@ -13,14 +15,75 @@ use Rattle.book.specs.Check.{powerOfTwo, sizesInRange, wordsInRange, coefficien
 use Rattle.levels.specs.Sizes.{halfLength, levelLength, levelStart, storeLength, samplesInRange, topInRange}
 use Rattle.levels.specs.Levels.{firstLevel, levelWord, nextLevel, levelOf, levelsOf}
 use Rattle.levels.specs.Build.{storeNumber, buildAnswer}
+use Rattle.player.specs.declared.Voice.{Voice}
+use Rattle.player.specs.declared.Order.the-variants.{Jump, Glide}
+use Rattle.player.specs.declared.Answer.{Answer}
+use Rattle.player.specs.Rate.{rateInRange, rateOf, askedLevel, advance}
+use Rattle.player.specs.Moves.{freshControl, jumped, gliding, sought, glideRate, moveGlide, fadeTarget, pointPlan, fadeAfter, movePoint, moveOutput}
+use Rattle.player.specs.Points.{limit, storeWord, unit, phaseAt, offsetAt, coefficient, valueSum, value, point}
+use Rattle.player.specs.Outputs.{push, pushTwo, outputSum, output, nextVoice, voiceAfter, outputs}
+use Rattle.player.specs.Refusals.{glideCountWrong, outputCountWrong, positionWrong, levelsWrong, fadeWrong, rateWrong, glideWrong, historyWrong, lateNumber, openNumber, orderInputNumber, orderNumber, seekNumber, playStateNumber, playNumber}
+use Rattle.player.specs.Calls.{zeroVoice, freshVoice, openAnswer, ordered, orderAnswer, seekAnswer, Played, playAnswer}
 
--- book K with F and h[0]
-abbrev pub bookK : ℕ → ℕ → List ℤ
-bookK fade h₀ = pos 2 ∷ pos 1 ∷ pos 0 ∷ pos 0 ∷ pos fade ∷ pos 0 ∷ pos 16384 ∷ pos 16384 ∷ negsuc 16383 ∷ pos h₀ ∷ pos 16384 ∷ []
+-- book K with another F, h[0] and g[0]
+abbrev pub bookWith : ℕ → ℕ → ℕ → List ℤ
+bookWith F h₀ g₀ = pos 2 ∷ pos 1 ∷ pos 0 ∷ pos 0 ∷ pos F ∷ pos 0 ∷ pos 16384 ∷ pos 16384 ∷ negsuc 16383 ∷ pos h₀ ∷ pos g₀ ∷ []
+
+-- book K: 2,1,0,0,1, 0,16384, 16384,−16384, 16384, 16384
+abbrev pub bookK : List ℤ
+bookK = bookWith 1 16384 16384
+
+-- rates, by the bit pattern of the f32
+abbrev pub rate1 : Float
+rate1 = ofBits binary32 0x3f80_0000
+
+abbrev pub rate2 : Float
+rate2 = ofBits binary32 0x4000_0000
+
+-- the store built for a recording, of just the words that it needs
+abbrev pub storeFor : List ℤ → List ℤ → ℕ → List ℤ
+storeFor b samples T = buildAnswer b samples T (replicate (storeLength (length samples) T) (pos 0)) .store
+
+-- the voice that an opening returns, after an order, and what a play of n words on it leaves
+abbrev pub opened : Float → ℕ → Answer
+opened r T = openAnswer (record { rate = r; top = T })
+
+abbrev pub playedBy : List ℤ → List ℤ → Voice → ℕ → Played
+playedBy b samples v n = playAnswer b (storeFor b samples (v .control .top)) (length samples) v (replicate n (pos 0))
 
 pub record Case : Type 0 where
   pub found : List ℤ
   pub stated : List ℤ
+
+-- K, T 0, samples 0 1000 2000, r = 1, play 4: 500 1500 1000 0
+unfoldable pub caseA : Case
+caseA = record {
+  found = playedBy bookK (pos 0 ∷ pos 1000 ∷ pos 2000 ∷ []) (opened rate1 0 .voice) 4 .words;
+  stated = pos 500 ∷ pos 1500 ∷ pos 1000 ∷ pos 0 ∷ []
+}
+
+-- the same, T 1, r = 2: play 3 gives 1000 1000 0
+unfoldable pub caseB : Case
+caseB = record {
+  found = playedBy bookK (pos 0 ∷ pos 1000 ∷ pos 2000 ∷ []) (opened rate2 1 .voice) 3 .words;
+  stated = pos 1000 ∷ pos 1000 ∷ pos 0 ∷ []
+}
+
+-- K with F 4, T 1, samples 0 1000 0 1000, open at 1, jump to 2, play 2: 500 0; level 1 is then current
+unfoldable pub caseC : Case
+caseC =
+    let p = playedBy (bookWith 4 16384 16384) (pos 0 ∷ pos 1000 ∷ pos 0 ∷ pos 1000 ∷ []) (orderAnswer (opened rate1 1 .voice) (Jump rate2) .voice) 2 in
+    record {
+      found = pos (p .voice .control .fade .from) ∷ pos (p .voice .control .fade .to) ∷ p .words;
+      stated = pos 1 ∷ pos 1 ∷ pos 500 ∷ pos 0 ∷ []
+    }
+
+-- with K itself: 0 0
+unfoldable pub caseD : Case
+caseD = record {
+  found = playedBy bookK (pos 0 ∷ pos 1000 ∷ pos 0 ∷ pos 1000 ∷ []) (orderAnswer (opened rate1 1 .voice) (Jump rate2) .voice) 2 .words;
+  stated = pos 0 ∷ pos 0 ∷ []
+}
 
 -- near(1/2) = 1, near(−1/2) = 0, near(−3/2) = −1, near(−5/4) = −1
 unfoldable pub caseE : Case
@@ -32,15 +95,34 @@ caseE = record {
 -- K with h[0] = 32: sample 1 stands in level 1 as 1, sample −1 as 0
 unfoldable pub caseF₁ : Case
 caseF₁ = record {
-  found = buildAnswer (bookK 1 32) (pos 1 ∷ []) 1 (pos 0 ∷ pos 0 ∷ []) .store;
+  found = buildAnswer (bookWith 1 32 16384) (pos 1 ∷ []) 1 (pos 0 ∷ pos 0 ∷ []) .store;
   stated = pos 256 ∷ pos 1 ∷ [];
 }
 
 unfoldable pub caseF₂ : Case
 caseF₂ = record {
-  found = buildAnswer (bookK 1 32) (negsuc 0 ∷ []) 1 (pos 0 ∷ pos 0 ∷ []) .store;
+  found = buildAnswer (bookWith 1 32 16384) (negsuc 0 ∷ []) 1 (pos 0 ∷ pos 0 ∷ []) .store;
   stated = negsuc 255 ∷ pos 0 ∷ [];
 }
+
+-- K with g[0] = 32767, T 0, samples 32767 three times, r = 1, play 1: 32767; with −32768 three times: −32768
+unfoldable pub caseG₁ : Case
+caseG₁ = record {
+  found = playedBy (bookWith 1 16384 32767) (replicate 3 (pos 32767)) (opened rate1 0 .voice) 1 .words;
+  stated = pos 32767 ∷ []
+}
+
+unfoldable pub caseG₂ : Case
+caseG₂ = record {
+  found = playedBy (bookWith 1 16384 32767) (replicate 3 (negsuc 32767)) (opened rate1 0 .voice) 1 .words;
+  stated = negsuc 32767 ∷ []
+}
+
+-- glide 2 to 1 over 3, first R: 223696213
+unfoldable pub caseH : Case
+caseH =
+    let v = orderAnswer (opened rate2 1 .voice) (Glide rate1 3) .voice in
+    record { found = pos (playedBy bookK (pos 0 ∷ []) v 1 .voice .control .rate) ∷ []; stated = pos 223696213 ∷ [] }
 
 -- store for S 3, T 1: 5 words; S 1, T 4: 5; S 1048576, T 4: 2031616
 unfoldable pub caseI : Case
@@ -49,10 +131,20 @@ caseI = record {
   stated = pos 5 ∷ pos 5 ∷ pos 2031616 ∷ [];
 }
 
+-- T 0: r = 1/16 gives R 8388608; the f32 just below 2 gives 268435440; 2 is refused 10
+unfoldable pub caseJ : Case
+caseJ = record {
+  found = pos (opened (ofBits binary32 0x3d80_0000) 0 .voice .control .rate)
+    ∷ pos (opened (ofBits binary32 0x3fff_ffff) 0 .voice .control .rate)
+    ∷ pos (opened rate2 0 .number)
+    ∷ [];
+  stated = pos 8388608 ∷ pos 268435440 ∷ pos 10 ∷ []
+}
+
 unfoldable pub starredCases : List Case
-starredCases = caseE ∷ caseF₁ ∷ caseF₂ ∷ caseI ∷ []
+starredCases = caseA ∷ caseB ∷ caseC ∷ caseD ∷ caseE ∷ caseF₁ ∷ caseF₂ ∷ caseG₁ ∷ caseG₂ ∷ caseH ∷ caseI ∷ caseJ ∷ []
 
 -- each case is as stated
 pub starred : map (λ c. c .found) starredCases ≡ map (λ c. c .stated) starredCases
-unfolding starredCases caseE caseF₁ caseF₂ caseI floorDiv near wordAt tabulate sum total sumAround eqZ every refuse _otherwise_ sizesOf differencesAt levelTapsAt decimationTapsAt bookLength impulseWord impulse difference levelTaps decimationTaps powerOfTwo sizesInRange wordsInRange coefficientsInRange differencesRight phaseSum tapSum sumsInRange bookNumber halfLength levelLength levelStart storeLength samplesInRange topInRange firstLevel levelWord nextLevel levelOf levelsOf storeNumber buildAnswer
+unfolding starredCases caseA caseB caseC caseD caseE caseF₁ caseF₂ caseG₁ caseG₂ caseH caseI caseJ floorDiv near wordAt tabulate sum total sumAround eqZ every refuse _otherwise_ sizesOf differencesAt levelTapsAt decimationTapsAt bookLength impulseWord impulse difference levelTaps decimationTaps powerOfTwo sizesInRange wordsInRange coefficientsInRange differencesRight phaseSum tapSum sumsInRange bookNumber halfLength levelLength levelStart storeLength samplesInRange topInRange firstLevel levelWord nextLevel levelOf levelsOf storeNumber buildAnswer ofBits rateInRange rateOf askedLevel advance freshControl jumped gliding sought glideRate moveGlide fadeTarget pointPlan fadeAfter movePoint moveOutput limit storeWord unit phaseAt offsetAt coefficient valueSum value point push pushTwo outputSum output nextVoice voiceAfter outputs glideCountWrong outputCountWrong positionWrong levelsWrong fadeWrong rateWrong glideWrong historyWrong lateNumber openNumber orderInputNumber orderNumber seekNumber playStateNumber playNumber zeroVoice freshVoice openAnswer ordered orderAnswer seekAnswer playAnswer
 starred = refl
