@@ -13,7 +13,7 @@ use Rattle.book.specs.Number.{refuse, _otherwise_}
 use Rattle.book.specs.Book.{sizesOf, differencesAt, levelTapsAt, decimationTapsAt, bookLength, impulseWord, impulse, difference, levelTaps, decimationTaps}
 use Rattle.book.specs.Check.{powerOfTwo, sizesInRange, wordsInRange, coefficientsInRange, differencesRight, phaseSum, tapSum, sumsInRange, bookNumber}
 use Rattle.levels.specs.Sizes.{halfLength, levelLength, levelStart, storeLength, samplesInRange, topInRange}
-use Rattle.levels.specs.Levels.{firstLevel, levelWord, nextLevel, levelOf, levelsOf}
+use Rattle.levels.specs.Levels.{firstLevel, levelSum, levelWord, nextLevel, levelOf, levelsOf}
 use Rattle.levels.specs.Build.{storeNumber, buildAnswer}
 use Rattle.player.specs.declared.Voice.{Voice}
 use Rattle.player.specs.declared.Order.the-variants.{Jump, Glide}
@@ -59,14 +59,14 @@ pub record Case : Type 0 where
 unfoldable pub caseA : Case
 caseA = record {
   found = playedBy bookK (pos 0 ∷ pos 1000 ∷ pos 2000 ∷ []) (opened rate1 0 .voice) 4 .words;
-  stated = pos 500 ∷ pos 1500 ∷ pos 1000 ∷ pos 0 ∷ []
+  stated = pos 500 ∷ pos 1500 ∷ pos 1000 ∷ pos 0 ∷ [];
 }
 
 -- the same, T 1, r = 2: play 3 gives 1000 1000 0
 unfoldable pub caseB : Case
 caseB = record {
   found = playedBy bookK (pos 0 ∷ pos 1000 ∷ pos 2000 ∷ []) (opened rate2 1 .voice) 3 .words;
-  stated = pos 1000 ∷ pos 1000 ∷ pos 0 ∷ []
+  stated = pos 1000 ∷ pos 1000 ∷ pos 0 ∷ [];
 }
 
 -- K with F 4, T 1, samples 0 1000 0 1000, open at 1, jump to 2, play 2: 500 0; level 1 is then current
@@ -75,14 +75,14 @@ caseC =
     let p = playedBy (bookWith 4 16384 16384) (pos 0 ∷ pos 1000 ∷ pos 0 ∷ pos 1000 ∷ []) (orderAnswer (opened rate1 1 .voice) (Jump rate2) .voice) 2 in
     record {
       found = pos (p .voice .control .fade .from) ∷ pos (p .voice .control .fade .to) ∷ p .words;
-      stated = pos 1 ∷ pos 1 ∷ pos 500 ∷ pos 0 ∷ []
+      stated = pos 1 ∷ pos 1 ∷ pos 500 ∷ pos 0 ∷ [];
     }
 
 -- with K itself: 0 0
 unfoldable pub caseD : Case
 caseD = record {
   found = playedBy bookK (pos 0 ∷ pos 1000 ∷ pos 0 ∷ pos 1000 ∷ []) (orderAnswer (opened rate1 1 .voice) (Jump rate2) .voice) 2 .words;
-  stated = pos 0 ∷ pos 0 ∷ []
+  stated = pos 0 ∷ pos 0 ∷ [];
 }
 
 -- near(1/2) = 1, near(−1/2) = 0, near(−3/2) = −1, near(−5/4) = −1
@@ -109,13 +109,13 @@ caseF₂ = record {
 unfoldable pub caseG₁ : Case
 caseG₁ = record {
   found = playedBy (bookWith 1 16384 32767) (replicate 3 (pos 32767)) (opened rate1 0 .voice) 1 .words;
-  stated = pos 32767 ∷ []
+  stated = pos 32767 ∷ [];
 }
 
 unfoldable pub caseG₂ : Case
 caseG₂ = record {
   found = playedBy (bookWith 1 16384 32767) (replicate 3 (negsuc 32767)) (opened rate1 0 .voice) 1 .words;
-  stated = negsuc 32767 ∷ []
+  stated = negsuc 32767 ∷ [];
 }
 
 -- glide 2 to 1 over 3, first R: 223696213
@@ -135,10 +135,10 @@ caseI = record {
 unfoldable pub caseJ : Case
 caseJ = record {
   found = pos (opened (ofBits binary32 0x3d80_0000) 0 .voice .control .rate)
-    ∷ pos (opened (ofBits binary32 0x3fff_ffff) 0 .voice .control .rate)
-    ∷ pos (opened rate2 0 .number)
-    ∷ [];
-  stated = pos 8388608 ∷ pos 268435440 ∷ pos 10 ∷ []
+      ∷ pos (opened (ofBits binary32 0x3fff_ffff) 0 .voice .control .rate)
+      ∷ pos (opened rate2 0 .number)
+      ∷ [];
+  stated = pos 8388608 ∷ pos 268435440 ∷ pos 10 ∷ [];
 }
 
 unfoldable pub starredCases : List Case
@@ -146,5 +146,5 @@ starredCases = caseA ∷ caseB ∷ caseC ∷ caseD ∷ caseE ∷ caseF₁ ∷ ca
 
 -- each case is as stated
 pub starred : map (λ c. c .found) starredCases ≡ map (λ c. c .stated) starredCases
-unfolding starredCases caseA caseB caseC caseD caseE caseF₁ caseF₂ caseG₁ caseG₂ caseH caseI caseJ floorDiv near wordAt tabulate sum total sumAround eqZ every refuse _otherwise_ sizesOf differencesAt levelTapsAt decimationTapsAt bookLength impulseWord impulse difference levelTaps decimationTaps powerOfTwo sizesInRange wordsInRange coefficientsInRange differencesRight phaseSum tapSum sumsInRange bookNumber halfLength levelLength levelStart storeLength samplesInRange topInRange firstLevel levelWord nextLevel levelOf levelsOf storeNumber buildAnswer ofBits rateInRange rateOf askedLevel advance freshControl jumped gliding sought glideRate moveGlide fadeTarget pointPlan fadeAfter movePoint moveOutput limit storeWord unit phaseAt offsetAt coefficient valueSum value point push pushTwo outputSum output nextVoice voiceAfter outputs glideCountWrong outputCountWrong positionWrong levelsWrong fadeWrong rateWrong glideWrong historyWrong lateNumber openNumber orderInputNumber orderNumber seekNumber playStateNumber playNumber zeroVoice freshVoice openAnswer ordered orderAnswer seekAnswer playAnswer
+unfolding starredCases caseA caseB caseC caseD caseE caseF₁ caseF₂ caseG₁ caseG₂ caseH caseI caseJ floorDiv near wordAt tabulate sum total sumAround eqZ every refuse _otherwise_ sizesOf differencesAt levelTapsAt decimationTapsAt bookLength impulseWord impulse difference levelTaps decimationTaps powerOfTwo sizesInRange wordsInRange coefficientsInRange differencesRight phaseSum tapSum sumsInRange bookNumber halfLength levelLength levelStart storeLength samplesInRange topInRange firstLevel levelSum levelWord nextLevel levelOf levelsOf storeNumber buildAnswer ofBits rateInRange rateOf askedLevel advance freshControl jumped gliding sought glideRate moveGlide fadeTarget pointPlan fadeAfter movePoint moveOutput limit storeWord unit phaseAt offsetAt coefficient valueSum value point push pushTwo outputSum output nextVoice voiceAfter outputs glideCountWrong outputCountWrong positionWrong levelsWrong fadeWrong rateWrong glideWrong historyWrong lateNumber openNumber orderInputNumber orderNumber seekNumber playStateNumber playNumber zeroVoice freshVoice openAnswer ordered orderAnswer seekAnswer playAnswer
 starred = refl

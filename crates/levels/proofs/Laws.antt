@@ -14,7 +14,7 @@ use Rattle.arith.proofs.Floor.{near-bound}
 use Rattle.arith.proofs.Lists.{at-outside, length-tabulate, getD-tabulate}
 use Rattle.book.specs.Check.{tapSum}
 use Rattle.levels.specs.Sizes.{halfLength, levelLength, levelStart, storeLength}
-use Rattle.levels.specs.Levels.{firstLevel, levelWord, nextLevel, levelOf, levelsOf}
+use Rattle.levels.specs.Levels.{firstLevel, levelSum, levelWord, nextLevel, levelOf, levelsOf}
 use Rattle.levels.proofs.Lengths.{levelStart-zero, storeLength-is, storeLength-suc}
 use Rattle.levels.proofs.Parts.{part-middle, overwrite-behind}
 use Rattle.levels.proofs.Around.{around, around-bound}
@@ -53,7 +53,7 @@ at-next h level k l = getD-tabulate (halfLength (length level)) (levelWord h lev
 -- ---- how large
 
 pub word-bound : (h level : List ℤ) → tapSum h ≤ 32768 → (c : ℕ) → ((k : ℕ) → natAbs (at level k) ≤ c) → (n : ℕ) → natAbs (levelWord h level n) ≤ 2 * c
-unfolding levelWord
+unfolding levelWord levelSum
 word-bound h level small c bound n = near-bound (around h level (2 * n) (length h)) {b = 16384} (omega arith) (2 * c) (omega (arith, around-bound h level (2 * n) small c bound (length h) (le-refl (length h))))
 
 pub next-bound : (h level : List ℤ) → tapSum h ≤ 32768 → (c : ℕ) → ((k : ℕ) → natAbs (at level k) ≤ c) → (k : ℕ) → natAbs (at (nextLevel h level) k) ≤ 2 * c

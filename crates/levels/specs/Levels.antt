@@ -12,9 +12,13 @@ use Rattle.levels.specs.Sizes.{halfLength}
 unfoldable pub firstLevel : List ℤ → List ℤ
 firstLevel samples = map (λ x. x *ℤ pos 256) samples
 
--- word n of the level above: near(sum over k = −A..A of h[|k|] × word (2n + k) / 16384), words outside the level being 0
+-- the sum over k = −A..A of h[|k|] × word (2n + k), words outside the level being 0
+unfoldable pub levelSum : List ℤ → List ℤ → ℕ → ℤ
+levelSum h level n = sumAround (pred (length h)) (λ k. at h (natAbs k) *ℤ wordAt level (pos (2 * n) +ℤ k))
+
+-- word n of the level above: near(that sum / 16384)
 unfoldable pub levelWord : List ℤ → List ℤ → ℕ → ℤ
-levelWord h level n = near (sumAround (pred (length h)) (λ k. at h (natAbs k) *ℤ wordAt level (pos (2 * n) +ℤ k))) 16384
+levelWord h level n = near (levelSum h level n) 16384
 
 -- the level above: half as long, rounded up
 unfoldable pub nextLevel : List ℤ → List ℤ → List ℤ

@@ -35,7 +35,7 @@ gliding c R₁ count = record {
   fade = c .fade;
   rate = c .rate;
   glide = record { start = c .rate; target = R₁; count = count; done = 0 };
-  position = c .position
+  position = c .position;
 }
 
 -- seek sets P only
@@ -58,7 +58,7 @@ moveGlide c =
       fade = c .fade;
       rate = glideRate g j;
       glide = cond (eqb j (g .count)) noGlide (record { start = g .start; target = g .target; count = g .count; done = j });
-      position = c .position
+      position = c .position;
     })
 
 -- ---- the fade
@@ -93,7 +93,7 @@ movePoint F c = record {
   fade = fadeAfter F (pointPlan c);
   rate = c .rate;
   glide = c .glide;
-  position = advance (c .position) (c .rate)
+  position = advance (c .position) (c .rate);
 }
 
 -- after an output: the glide, then two points

@@ -12,7 +12,7 @@ use mir.Val.{SFits}
 use Rattle.arith.specs.Floor.{near}
 use Rattle.arith.proofs.Bits.{reads}
 use Rattle.arith.proofs.Integers.{abs-fits}
-use Rattle.levels.specs.Levels.{levelWord}
+use Rattle.levels.specs.Levels.{levelSum, levelWord}
 use Rattle.levels.proofs.Around.{around, around-bound}
 use Rattle.levels.proofs.Laws.{word-bound}
 use Rattle.levels.proofs.halving.level_word.Statement.{statement}
@@ -54,7 +54,7 @@ near-requires c κs =
 
 module _ (c : tie.After-near) where
   near-is : c .near .result ≡ word (c .before .before .before .before)
-  unfolding levelWord
+  unfolding levelWord levelSum
   near-is = (simp (reads, inner-fits (c .before)) at (c .near .ensures)) ∙ ap (λ z. near z 16384) (c .before .inner-sum .ensures)
 
   near-fits : SFits w32 (c .near .result)
@@ -80,7 +80,7 @@ near-requires-2 c κs =
 
 module _ (c : tie.After-near2) where
   near-is-2 : c .near2 .result ≡ word (c .before .before .before)
-  unfolding levelWord
+  unfolding levelWord levelSum
   near-is-2 = (simp (reads, edge-fits (c .before)) at (c .near2 .ensures)) ∙ ap (λ z. near z 16384) (c .before .edge-sum .ensures)
 
   near-fits-2 : SFits w32 (c .near2 .result)
