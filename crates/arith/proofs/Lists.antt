@@ -1,13 +1,13 @@
 -- The laws of `wordAt`, `part`, `tabulate` and `overwrite`, and of a loop that writes a list word by word. Assumes nothing.
-use mathlib.Core.Path.{_≡_, refl, sym, ap, ap₂, _∙_}
-use mathlib.Core.List.{List, [], _∷_, _++_, append-assoc}
-use Prim.Native.Nat.{ℕ, zero, suc, _+_, _-_, min, _≤_, _<_}
-use native.Mathlib.Nat.{add-zero, add-suc, le-of-suc-le-suc, not-suc-le-zero, le-refl}
+use mathlib.Core.Path.{_≡_, refl, ap, _∙_}
+use mathlib.Core.List.{List, _++_}
+use Prim.Native.Nat.{ℕ, zero, suc, _+_, _≤_, _<_}
+use native.Mathlib.Nat.{le-of-suc-le-suc, not-suc-le-zero, le-refl}
 use native.Mathlib.Numerals.{add-one}
 use native.Mathlib.Omega.{arith}
 use lib.IntN.{ℤ, pos, negsuc, natAbs}
-use lib.ListN.{length, getD, take, drop, set, length-append, length-take, length-drop, take-append-drop, List·getD-eq-default}
-use lib.Seq.{getD-take, getD-drop, take-all, take-append-le, drop-append-le, take-take, drop-drop, take-nil, drop-nil, paste, paste-zero, paste-suc, length-paste}
+use lib.ListN.{length, getD, take, drop, set, length-take, length-drop, List·getD-eq-default}
+use lib.Seq.{getD-take, getD-drop, take-all, take-append-le, take-take, paste, paste-zero, paste-suc}
 use Rattle.arith.specs.Lists.{at, wordAt, part, tabulate, overwrite}
 
 -- ---- a part

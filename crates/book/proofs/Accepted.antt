@@ -1,26 +1,25 @@
 -- What an accepted book is known to hold: the laws that its readers cite. Assumes nothing.
-use mathlib.Core.Path.{_≡_, refl, sym, ap, _∙_}
+use mathlib.Core.Path.{_≡_, sym, ap, _∙_}
 use mathlib.Core.Bool.{true, not}
 use mathlib.Core.List.{List}
-use mathlib.Core.Logic.{⊎-elim}
-use Prim.Native.Nat.{ℕ, zero, suc, _+_, _*_, _^_, _≤_, _<_, pred}
-use native.Mathlib.Nat.{le-trans, le-of-eq}
+use Prim.Native.Nat.{ℕ, suc, _+_, _*_, _≤_, _<_, pred}
+use native.Mathlib.Nat.{le-trans}
 use native.Mathlib.Decide.{decLt}
 use native.Mathlib.Omega.{arith}
 use borrow.Author.Tests.{leb-true, eqb-true}
 use lib.Dec.{leb, eqb, ltb}
 use lib.IntN.{ℤ, pos, negsuc, natAbs, _-ℤ_}
 use lib.ListN.{length}
-use Rattle.arith.specs.Lists.{at, part}
+use Rattle.arith.specs.Lists.{at}
 use Rattle.arith.specs.Sum.{total}
 use Rattle.arith.specs.Tests.{eqZ, every, within}
-use Rattle.arith.proofs.Lists.{part-length, at-part}
+use Rattle.arith.proofs.Lists.{part-length}
 use Rattle.arith.proofs.Sum.{total-ext, total-first}
 use Rattle.arith.proofs.Tests.{&&-left, &&-right, every-at, eqZ-true, within-half}
-use Rattle.book.specs.Number.{refuse, _otherwise_}
+use Rattle.book.specs.Number.{refuse}
 use Rattle.book.specs.Book.{sizesOf, levelTapsAt, decimationTapsAt, bookLength, impulseWord, impulse, difference, levelTaps, decimationTaps}
 use Rattle.book.specs.Check.{sizesInRange, wordsInRange, coefficientsInRange, differencesRight, phaseSum, tapSum, sumsInRange, bookNumber}
-use Rattle.book.proofs.Bounds.{Bounded, bounded, array-high, length-is, decimation-at, end-at, row-below}
+use Rattle.book.proofs.Bounds.{Bounded, bounded, decimation-at, end-at, row-below}
 use Rattle.book.proofs.Numbers.{none-first, none-second, not-refused}
 use Rattle.book.proofs.Parts.{impulse-stored, impulse-past, impulse-end}
 

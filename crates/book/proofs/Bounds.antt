@@ -1,15 +1,14 @@
 -- What the sizes of a book are bounded by, once they are in range. Assumes nothing.
-use mathlib.Core.Path.{_≡_, refl, sym, ap, _∙_}
-use mathlib.Core.Bool.{Bool, true, _&&_}
+use mathlib.Core.Path.{_≡_, refl}
+use mathlib.Core.Bool.{true}
 use mathlib.Core.List.{List}
 use Prim.Native.Nat.{ℕ, suc, _+_, _*_, _%_, _≤_, _<_}
 use native.Mathlib.Nat.{mul-le-mul, mul-le-mul-right}
 use native.Mathlib.Omega.{arith}
 use borrow.Author.Tests.{eqb-true}
 use lib.Dec.{eqb}
-use lib.IntN.{ℤ, pos, natAbs}
+use lib.IntN.{ℤ, natAbs}
 use Rattle.arith.specs.Lists.{at}
-use Rattle.arith.specs.Tests.{within}
 use Rattle.arith.proofs.Tests.{&&-left, &&-right, within-size}
 use Rattle.book.specs.declared.Sizes.{Sizes}
 use Rattle.book.specs.Book.{sizesOf, differencesAt, levelTapsAt, decimationTapsAt, bookLength}

@@ -1,13 +1,11 @@
 -- The parts of a book as words of it. Assumes nothing.
-use mathlib.Core.Path.{_≡_, refl, sym, ap, _∙_}
-use mathlib.Core.Bool.{true, false}
+use mathlib.Core.Path.{_≡_, ap}
 use mathlib.Core.List.{List}
 use Prim.Native.Nat.{ℕ, suc, _+_, _*_, _≤_, _<_}
 use native.Mathlib.Omega.{arith}
 use borrow.Author.Tests.{lt-ltb, le-ltb}
 use lib.IntN.{ℤ, pos, natAbs}
-use lib.ListN.{length}
-use Rattle.arith.specs.Lists.{at, part}
+use Rattle.arith.specs.Lists.{at}
 use Rattle.arith.specs.Sum.{total}
 use Rattle.arith.proofs.Sum.{total-ext}
 use Rattle.book.specs.Book.{sizesOf, impulseWord, impulse}

@@ -6,7 +6,6 @@ use Prim.Native.Nat.{ℕ, suc, _+_, _*_}
 use lib.Dec.{ltb}
 use lib.IntN.{ℤ, pos, natAbs}
 use Rattle.arith.specs.Lists.{at, part}
-use Rattle.arith.specs.Sum.{total}
 use Rattle.book.specs.declared.Sizes.{Sizes}
 
 -- N, M, A, B and F, as numbers

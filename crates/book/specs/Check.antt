@@ -9,7 +9,7 @@ use Rattle.arith.specs.Lists.{at}
 use Rattle.arith.specs.Sum.{total}
 use Rattle.arith.specs.Tests.{eqZ, within, every}
 use Rattle.book.specs.Number.{refuse, _otherwise_}
-use Rattle.book.specs.Book.{sizesOf, differencesAt, levelTapsAt, bookLength, impulse, difference, levelTaps, decimationTaps}
+use Rattle.book.specs.Book.{sizesOf, levelTapsAt, bookLength, impulse, difference, levelTaps, decimationTaps}
 
 -- a power of two from 1 to 128
 unfoldable pub powerOfTwo : ℕ → Bool

@@ -1,14 +1,12 @@
 -- Lists of order, seek and play calls, each given the voice that the last one returned: what the player hands out over such a list, and
 -- what the exact player does.
-use mathlib.Core.Bool.{Bool, true, false, cond, _&&_}
+use mathlib.Core.Bool.{Bool, true, false, cond}
 use mathlib.Core.List.{List, [], _∷_, _++_}
 use Prim.Native.Nat.{ℕ, _+_, _*_, _^_}
 use lib.Dec.{eqb}
 use lib.IntN.{ℤ}
 use lib.ListN.{length}
-use Rattle.book.specs.Number.{refuse, _otherwise_}
 use Rattle.book.specs.Book.{sizesOf}
-use Rattle.book.specs.Check.{bookNumber}
 use Rattle.player.specs.declared.Voice.{Voice}
 use Rattle.player.specs.declared.Order.{Order}
 use Rattle.player.specs.Moves.{sought}

@@ -5,10 +5,9 @@ use mathlib.Core.List.{List}
 use Prim.Native.Nat.{ℕ, _≤_}
 use native.Mathlib.Omega.{arith}
 use borrow.Author.Tests.{leb-true, ltb-false}
-use lib.Dec.{ltb}
 use lib.IntN.{ℤ}
 use Rattle.arith.proofs.Tests.{&&-left, &&-right}
-use Rattle.book.specs.Number.{refuse, _otherwise_}
+use Rattle.book.specs.Number.{refuse}
 use Rattle.book.specs.Check.{bookNumber}
 use Rattle.book.proofs.Numbers.{none-first, none-second, condition-fails}
 use Rattle.levels.specs.Sizes.{storeLength, samplesInRange, topInRange}

@@ -1,7 +1,7 @@
 -- How long the octave levels of S samples are, and where each begins in a store (document 01, "Octave levels").
-use mathlib.Core.Bool.{Bool, not, _&&_, _||_}
+use mathlib.Core.Bool.{Bool, _&&_}
 use Prim.Native.Nat.{ℕ, zero, suc, _+_, _/_}
-use lib.Dec.{ltb, leb}
+use lib.Dec.{leb}
 use Rattle.arith.specs.Sum.{total}
 
 -- half of a length, rounded up

@@ -3,7 +3,6 @@ use mathlib.Core.Bool.{Bool, not, _&&_, _||_}
 use mathlib.Core.List.{List}
 use Prim.Native.Nat.{ℕ, _+_, _^_}
 use lib.Dec.{ltb, leb, eqb}
-use lib.Ieee.{Float}
 use lib.IntN.{ℤ, natAbs}
 use lib.ListN.{length}
 use Rattle.arith.specs.Lists.{at}

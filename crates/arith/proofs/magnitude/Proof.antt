@@ -4,7 +4,7 @@ use Prim.Native.Nat.{_^_, _≤_}
 use native.Mathlib.Omega.{arith}
 use lib.IntN.{ℤ, pos, natAbs, _-ℤ_, +ℤ-idl}
 use lib.Signed.{_<ℤ_, yes-nonNeg, natAbs-le}
-use mir.Syntax.{w32, w64}
+use mir.Syntax.{w64}
 use mir.Val.{SFits}
 use mir.Facts.{sfits-widen}
 use Rattle.arith.proofs.Bits.{reads}

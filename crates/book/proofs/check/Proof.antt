@@ -3,8 +3,8 @@ use borrow.Author.Needs.{needs}
 use borrow.Author.Tests.{lt-ltb, le-ltb, eq-eqb, ne-eqb}
 use mathlib.Core.Bool.{true, false}
 use mathlib.Core.List.{List}
-use mathlib.Core.Path.{_≡_, refl, sym, ap, ap₂, _∙_}
-use Prim.Native.Nat.{ℕ, _+_, _*_, _<_, _≤_}
+use mathlib.Core.Path.{_≡_, refl, sym, ap, _∙_}
+use Prim.Native.Nat.{_+_, _*_, _≤_}
 use native.Mathlib.Omega.{arith}
 use lib.Dec.{ltb, eqb}
 use lib.IntN.{ℤ, pos}
@@ -14,7 +14,6 @@ use mir.Val.{SFits, ofZ, toZ}
 use mir.ValLaws.{toZ-ofZ}
 use Rattle.arith.specs.Lists.{at}
 use Rattle.arith.specs.Tests.{eqZ}
-use Rattle.arith.proofs.Bits.{reads}
 use Rattle.arith.proofs.Tests.{test-fails, test-holds, eqZ-yes, eqZ-no}
 use Rattle.book.specs.declared.Sizes.{Sizes}
 use Rattle.book.specs.Number.{refuse, _otherwise_}

@@ -1,20 +1,16 @@
 -- `levels::build` meets its contract: a number writes nothing, and else `write_levels` writes all. Assumes nothing.
 use borrow.Author.Needs.{needs}
-use borrow.Author.Tests.{eq-eqb, ne-eqb}
-use mathlib.Core.List.{List}
-use mathlib.Core.Path.{_≡_, sym, ap, ap₂, _∙_}
-use Prim.Native.Nat.{ℕ, _≤_}
+use borrow.Author.Tests.{ne-eqb}
+use mathlib.Core.Path.{_≡_, sym, ap, _∙_}
 use native.Mathlib.Nat.{le-trans, le-of-eq}
 use native.Mathlib.Omega.{arith}
-use lib.IntN.{ℤ}
 use lib.ListN.{length}
 use Rattle.arith.specs.Lists.{overwrite}
-use Rattle.book.specs.Book.{levelTaps}
 use Rattle.book.specs.Check.{tapSum}
 use Rattle.book.proofs.Accepted.{accepted, sizes-bounded, levelTaps-length, levelTaps-sum}
 use Rattle.levels.specs.Levels.{levelsOf}
 use Rattle.levels.specs.Build.{built, storeNumber, buildAnswer}
-use Rattle.levels.proofs.Fitting.{Fitting, fitting}
+use Rattle.levels.proofs.Fitting.{fitting}
 use Rattle.levels.proofs.build.Statement.{statement}
 use Rattle.levels.proofs.build.Tie as tie
 

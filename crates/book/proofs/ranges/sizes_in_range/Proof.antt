@@ -3,10 +3,9 @@ use borrow.Author.Needs.{needs}
 use borrow.Author.Tests.{eq-eqb, ne-eqb}
 use mathlib.Core.Bool.{true, false}
 use mathlib.Core.Path.{_≡_, ap, _∙_}
-use mathlib.Core.List.{List}
 use Prim.Native.Nat.{_%_}
 use lib.Dec.{eqb}
-use lib.IntN.{ℤ, pos, natAbs}
+use lib.IntN.{pos, natAbs}
 use Rattle.arith.specs.Lists.{at}
 use Rattle.arith.specs.Tests.{within}
 use Rattle.arith.proofs.Tests.{test-fails, test-holds}

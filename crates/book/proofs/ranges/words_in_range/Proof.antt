@@ -1,7 +1,6 @@
 -- `book::ranges::words_in_range` meets its contract. The loop's invariant: the words passed lie in range. Assumes nothing.
-use borrow.Author.Needs.{needs}
 use mathlib.Core.Bool.{true}
-use mathlib.Core.Path.{_≡_, sym, refl, _∙_}
+use mathlib.Core.Path.{_≡_, sym, refl}
 use Prim.Native.Nat.{_-_, _≤_, _+_}
 use native.Mathlib.Omega.{arith}
 use lib.IntN.{pos, negsuc}

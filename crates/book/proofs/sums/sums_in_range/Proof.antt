@@ -4,7 +4,7 @@ use borrow.Author.Tests.{le-leb, lt-leb}
 use mathlib.Core.Bool.{true}
 use mathlib.Core.List.{List}
 use mathlib.Core.Path.{_≡_, sym, ap, _∙_}
-use Prim.Native.Nat.{ℕ, _+_, _-_, _≤_}
+use Prim.Native.Nat.{_+_, _-_, _≤_}
 use native.Mathlib.Omega.{arith}
 use lib.Dec.{leb}
 use lib.IntN.{ℤ}
@@ -12,7 +12,7 @@ use lib.ListN.{length, length-take, length-drop, take, drop}
 use Rattle.arith.specs.Lists.{part}
 use Rattle.arith.specs.Tests.{every}
 use Rattle.arith.proofs.Tests.{test-fails, test-holds}
-use Rattle.book.specs.Book.{sizesOf, levelTapsAt, decimationTapsAt, levelTaps, decimationTaps}
+use Rattle.book.specs.Book.{sizesOf, levelTaps, decimationTaps}
 use Rattle.book.specs.Check.{phaseSum, tapSum, sumsInRange}
 use Rattle.book.proofs.Bounds.{bounded, decimation-at, end-at}
 use Rattle.book.proofs.sums.sums_in_range.Statement.{statement}
