@@ -1,0 +1,2 @@
+pub mod ExactLevels
+pub mod Contraction
