@@ -1,0 +1,122 @@
+-- The laws of histories: how large an output's sum is, and which words a push leaves where. Assumes nothing.
+use mathlib.Core.Path.{_≡_, refl, ap, _∙_}
+use mathlib.Core.List.{List}
+use Prim.Native.Nat.{ℕ, zero, suc, _+_, _*_, _≤_, _<_, pred}
+use native.Mathlib.Nat.{le-trans, mul-le-mul-right}
+use native.Mathlib.Decide.{decLt}
+use native.Mathlib.Omega.{arith}
+use lib.IntN.{ℤ, pos, natAbs, _-ℤ_, _*ℤ_}
+use lib.ListN.{length, take, length-take}
+use lib.Seq.{getD-take}
+use Rattle.arith.specs.Lists.{at}
+use Rattle.arith.specs.Sum.{sum, total}
+use Rattle.arith.proofs.Lists.{at-outside}
+use Rattle.arith.proofs.Ring.{products, terms}
+use Rattle.arith.proofs.Sum.{sum-ext, sum-abs-*}
+use Rattle.book.specs.Book.{sizesOf, decimationTaps}
+use Rattle.book.specs.Check.{tapSum}
+use Rattle.book.proofs.Accepted.{Accepted, decimationTaps-length, decimationTaps-sum}
+use Rattle.player.specs.declared.Control.{Control}
+use Rattle.player.specs.Moves.{Plan, moveGlide, pointPlan, movePoint}
+use Rattle.player.specs.Outputs.{push, pushTwo, outputSum}
+use Rattle.player.proofs.Sums.{total-around, sum-linear}
+
+-- ---- the sum of an output
+
+-- the weight of the k-th newest point
+abbrev weight : List ℤ → ℕ → ℤ
+weight b k = at (decimationTaps b) (natAbs (pos k -ℤ pos (sizesOf b .decimation)))
+
+-- how many points an output reads
+abbrev reads : List ℤ → ℕ
+reads b = 2 * sizesOf b .decimation + 1
+
+-- two sums are one, over the points taken together
+outputSum-linear : (b : List ℤ) (c d : ℤ) (h h′ : List ℤ)
+    → c *ℤ outputSum b h -ℤ d *ℤ outputSum b h′ ≡ sum (reads b) (λ k. weight b k *ℤ (c *ℤ at h k -ℤ d *ℤ at h′ k))
+unfolding outputSum
+outputSum-linear b c d h h′ =
+    sum-linear (reads b) c d (λ k. weight b k *ℤ at h k) (λ k. weight b k *ℤ at h′ k)
+    ∙ sum-ext (reads b) (λ k m. together (weight b k) (at h k) (at h′ k))
+  where
+    together : (z x y : ℤ) → c *ℤ (z *ℤ x) -ℤ d *ℤ (z *ℤ y) ≡ z *ℤ (c *ℤ x -ℤ d *ℤ y)
+    together z x y = simp products (simp terms (omega arith))
+
+module _ (b : List ℤ) (a : Accepted b) where
+  -- each decimation tap but the first is read twice
+  weights-sum : total (reads b) (λ k. natAbs (weight b k)) ≤ 32768
+  unfolding tapSum
+  weights-sum =
+      let g = decimationTaps b in
+      let B = sizesOf b .decimation in
+      let count : pred (length g) ≡ B = omega (arith, decimationTaps-length b a) in
+      let taps : natAbs (at g 0) + 2 * total B (λ k. natAbs (at g (suc k))) ≤ 32768 = rw count at (decimationTaps-sum b a) in
+      omega (arith, total-around B (λ k. natAbs (at g k)), taps)
+
+  -- of points of at most X
+  weighted-bound : (x : ℕ → ℤ) (X : ℕ) → ((k : ℕ) → natAbs (x k) ≤ X) → natAbs (sum (reads b) (λ k. weight b k *ℤ x k)) ≤ 32768 * X
+  weighted-bound x X h = le-trans (sum-abs-* (reads b) (weight b) x X (λ k m. h k)) (mul-le-mul-right X weights-sum)
+
+  pub outputSum-bound : (h : List ℤ) (X : ℕ) → ((k : ℕ) → natAbs (at h k) ≤ X) → natAbs (outputSum b h) ≤ 32768 * X
+  unfolding outputSum
+  outputSum-bound h X bound = weighted-bound (at h) X bound
+
+  -- of histories whose points are at most X apart
+  pub outputSum-apart : (c d : ℤ) (h h′ : List ℤ) (X : ℕ) → ((k : ℕ) → natAbs (c *ℤ at h k -ℤ d *ℤ at h′ k) ≤ X)
+      → natAbs (c *ℤ outputSum b h -ℤ d *ℤ outputSum b h′) ≤ 32768 * X
+  outputSum-apart c d h h′ X bound = rw (outputSum-linear b c d h h′) (weighted-bound (λ k. c *ℤ at h k -ℤ d *ℤ at h′ k) X bound)
+
+-- ---- one more point
+
+module _ (x : ℤ) (h : List ℤ) where
+  pub length-push : length h ≡ 81 → length (push x h) ≡ 81
+  unfolding push
+  length-push e = ap suc (length-take 80 h ∙ omega arith)
+
+  pub at-push-zero : at (push x h) 0 ≡ x
+  unfolding push
+  at-push-zero = refl
+
+  pub at-push-suc : (k : ℕ) → k < 80 → at (push x h) (suc k) ≡ at h k
+  unfolding push
+  at-push-suc k l = getD-take 80 h k (pos 0) l
+
+  -- the 82nd newest point and those before it are left out
+  pub at-push-outside : (k : ℕ) → 80 ≤ k → at (push x h) (suc k) ≡ pos 0
+  unfolding push
+  at-push-outside k l = at-outside (take 80 h) k (simp length-take (omega arith))
+
+-- what holds of 0, of the new points and of the words before holds of every word, of two histories side by side
+push-both : (R : ℤ → ℤ → Type 0) (x x′ : ℤ) (h h′ : List ℤ) → R (pos 0) (pos 0) → R x x′ → ((k : ℕ) → R (at h k) (at h′ k))
+    → (k : ℕ) → R (at (push x h) k) (at (push x′ h′) k)
+push-both R x x′ h h′ none new before zero = rw (at-push-zero x h, at-push-zero x′ h′) new
+push-both R x x′ h h′ none new before (suc k) = go (decLt k 80)
+  where
+    go : Dec (k < 80) → R (at (push x h) (suc k)) (at (push x′ h′) (suc k))
+    go (yes l) = rw (at-push-suc x h k l, at-push-suc x′ h′ k l) (before k)
+    go (no l) = rw (at-push-outside x h k (omega arith), at-push-outside x′ h′ k (omega arith)) none
+
+-- ---- the two points of an output
+
+pub length-pushTwo : (make : Plan → ℤ) (F : ℕ) (c : Control) (h : List ℤ) → length h ≡ 81 → length (pushTwo make F c h) ≡ 81
+unfolding pushTwo
+length-pushTwo make F c h e =
+    let x = make (pointPlan (moveGlide c)) in
+    let y = make (pointPlan (movePoint F (moveGlide c))) in
+    length-push y (push x h) (length-push x h e)
+
+-- of two histories side by side
+pub pushTwo-both : (R : ℤ → ℤ → Type 0) (make make′ : Plan → ℤ) (F : ℕ) (c : Control) (h h′ : List ℤ) → R (pos 0) (pos 0)
+    → R (make (pointPlan (moveGlide c))) (make′ (pointPlan (moveGlide c)))
+    → R (make (pointPlan (movePoint F (moveGlide c)))) (make′ (pointPlan (movePoint F (moveGlide c))))
+    → ((k : ℕ) → R (at h k) (at h′ k)) → (k : ℕ) → R (at (pushTwo make F c h) k) (at (pushTwo make′ F c h′) k)
+unfolding pushTwo
+pushTwo-both R make make′ F c h h′ none first second before =
+    let plan₁ = pointPlan (moveGlide c) in
+    let plan₂ = pointPlan (movePoint F (moveGlide c)) in
+    push-both R (make plan₂) (make′ plan₂) (push (make plan₁) h) (push (make′ plan₁) h′) none second (push-both R (make plan₁) (make′ plan₁) h h′ none first before)
+
+-- of one history
+pub pushTwo-all : (Q : ℤ → Type 0) (make : Plan → ℤ) (F : ℕ) (c : Control) (h : List ℤ) → Q (pos 0) → Q (make (pointPlan (moveGlide c)))
+    → Q (make (pointPlan (movePoint F (moveGlide c)))) → ((k : ℕ) → Q (at h k)) → (k : ℕ) → Q (at (pushTwo make F c h) k)
+pushTwo-all Q make F c h = pushTwo-both (λ x x′. Q x) make make F c h h

@@ -1,0 +1,271 @@
+-- Opening makes a sound control, and orders, seeks, glides, points and outputs keep it sound. Assumes nothing.
+use mathlib.Core.Path.{_≡_, refl, _∙_}
+use mathlib.Core.Bool.{Bool, true, false, not, cond}
+use Prim.Native.Nat.{ℕ, suc, _+_, _-_, _^_, _≤_, _<_}
+use native.Mathlib.Nat.{min-le-right, mul-le-mul-right}
+use native.Mathlib.Decide.{ℕ-discrete}
+use native.Mathlib.Omega.{arith}
+use borrow.Author.Tests.{ltb-false, leb-true, eqb-false, eq-eqb, ne-eqb}
+use lib.Dec.{eqb}
+use lib.IntN.{ℤ, pos, _+ℤ_, _-ℤ_, _*ℤ_}
+use lib.Signed.{_≤ℤ_}
+use Rattle.arith.specs.Floor.{floorDiv}
+use Rattle.arith.proofs.Linear.{linear}
+use Rattle.arith.proofs.Floor.{floor-mono, floor-unique}
+use Rattle.book.specs.Number.{refuse}
+use Rattle.book.proofs.Numbers.{none-first, none-second, condition-fails, not-refused}
+use Rattle.levels.specs.Sizes.{topInRange}
+use Rattle.player.specs.declared.Card.{Card}
+use Rattle.player.specs.declared.Ramp.{Ramp}
+use Rattle.player.specs.declared.Fade.{Fade}
+use Rattle.player.specs.declared.Control.{Control}
+use Rattle.player.specs.declared.Order.{Order}
+use Rattle.player.specs.declared.Order.the-variants.{Jump, Glide}
+use Rattle.player.specs.Rate.{rateInRange, rateOf, advance}
+use Rattle.player.specs.Moves.{noGlide, noFade, freshControl, jumped, gliding, sought, glideRate, moveGlide, fadeTarget, pointPlan, fadeAfter, movePoint, moveOutput}
+use Rattle.player.specs.Refusals.{glideCountWrong, positionWrong, openNumber, orderInputNumber}
+use Rattle.player.specs.Calls.{freshVoice, openAnswer, ordered}
+use Rattle.player.proofs.Rates.{rate-low, rate-high, asked-≤}
+use Rattle.player.proofs.Sound.{RampSound, Sound, ||-left, ||-right}
+
+-- ---- opening
+
+module _ (card : Card) (e : openNumber card ≡ 0) where
+  pub open-accepted : openAnswer card .voice ≡ freshVoice card
+  unfolding openAnswer
+  open-accepted = rw e
+
+  pub open-top : card .top ≤ 4
+  unfolding openNumber topInRange
+  open-top = leb-true _ _ (not-refused 7 (topInRange (card .top)) (none-first _ _ e))
+
+  pub open-rate : rateInRange (card .rate) (card .top) ≡ true
+  unfolding openNumber
+  open-rate = not-refused 9 _ (none-second (refuse 8 (not (topInRange (card .top)))) _ e)
+
+-- a fresh control is at rest, at a level that its rate asks for
+pub fresh-sound : (F : ℕ) (card : Card) → 1 ≤ F → openNumber card ≡ 0 → Sound F (freshControl (card .top) (rateOf (card .rate)))
+unfolding freshControl
+fresh-sound F card f e =
+    let low = rate-low (card .rate) (card .top) (open-rate card e) in
+    let high = rate-high (card .rate) (card .top) (open-rate card e) in
+    let asked = asked-≤ (rateOf (card .rate)) (card .top) high in
+    record {
+      top-high = open-top card e;
+      from-high = asked;
+      to-high = asked;
+      step-low = f;
+      resting = λ z. refl;
+      fading = λ n. absurd (n refl);
+      rate-low = low;
+      rate-high = high;
+      glide-sound = λ n. absurd (n refl);
+      position-high = omega arith;
+    }
+
+-- ---- orders and seek
+
+-- with another rate in range, glide and position
+moved-sound : {F : ℕ} {c : Control} → Sound F c → (R : ℕ) → 2 ^ 23 ≤ R → R < 2 ^ (28 + c .top) → (g : Ramp) → ((g .count ≡ 0 → ⊥) → RampSound (c .top) g) → (P : ℕ) → P ≤ 2 ^ 60 → Sound F (record { top = c .top; fade = c .fade; rate = R; glide = g; position = P })
+moved-sound s R low high g glide P position = record {
+  top-high = s .top-high;
+  from-high = s .from-high;
+  to-high = s .to-high;
+  step-low = s .step-low;
+  resting = s .resting;
+  fading = s .fading;
+  rate-low = low;
+  rate-high = high;
+  glide-sound = glide;
+  position-high = position;
+}
+
+-- a jump ends the glide; a glide order starts one at the rate of now
+pub ordered-sound : {F : ℕ} {c : Control} → Sound F c → (o : Order) → orderInputNumber (c .top) o ≡ 0 → Sound F (ordered c o)
+unfolding orderInputNumber ordered jumped gliding glideCountWrong
+ordered-sound {F} {c} s (Jump r) e =
+    let range = not-refused 9 _ e in
+    moved-sound s (rateOf r) (rate-low r (c .top) range) (rate-high r (c .top) range) noGlide (λ n. absurd (n refl)) (c .position) (s .position-high)
+ordered-sound {F} {c} s (Glide r count) e =
+    let range = not-refused 9 _ (none-first _ _ e) in
+    let counted = condition-fails 10 _ (none-second (refuse 10 (not (rateInRange r (c .top)))) _ e) in
+    let none : count ≡ 0 → ⊥ = eqb-false count 0 (||-left _ _ counted) in
+    let ramp : RampSound (c .top) (record { start = c .rate; target = rateOf r; count = count; done = 0 }) = record {
+      start-low = s .rate-low;
+      start-high = s .rate-high;
+      target-low = rate-low r (c .top) range;
+      target-high = rate-high r (c .top) range;
+      count-high = ltb-false 65536 count (||-right (eqb count 0) _ counted);
+      done-high = omega arith;
+    } in
+    moved-sound s (c .rate) (s .rate-low) (s .rate-high) _ (λ n. ramp) (c .position) (s .position-high)
+
+pub sought-sound : {F : ℕ} {c : Control} → Sound F c → (P : ℕ) → refuse 12 (positionWrong P) ≡ 0 → Sound F (sought c P)
+unfolding sought positionWrong
+sought-sound {F} {c} s P e = moved-sound s (c .rate) (s .rate-low) (s .rate-high) (c .glide) (s .glide-sound) P (ltb-false _ _ (condition-fails 11 _ e))
+
+pub ordered-top : (c : Control) (o : Order) → ordered c o .top ≡ c .top
+unfolding ordered jumped gliding
+ordered-top c (Jump r) = refl
+ordered-top c (Glide r count) = refl
+
+pub sought-top : (c : Control) (P : ℕ) → sought c P .top ≡ c .top
+unfolding sought
+sought-top c P = refl
+
+-- ---- the glide
+
+-- of a whole number of divisors
+floor-multiple : (q : ℤ) {b : ℕ} → 0 < b → floorDiv (pos b *ℤ q) b ≡ q
+floor-multiple q {b} h = floor-unique (pos b *ℤ q) h (simp linear (omega arith)) (simp linear (omega arith))
+
+-- a + ⌊(b − a) × j / (x + j)⌋ lies where a and b lie, the mean of which it is
+module _ (a b x j : ℕ) (h : 0 < x + j) where
+  mean-low : (lo : ℕ) → lo ≤ a → lo ≤ b → pos lo ≤ℤ (pos a +ℤ floorDiv ((pos b -ℤ pos a) *ℤ pos j) (x + j))
+  mean-low lo p q =
+      let l : (pos (x + j) *ℤ (pos lo -ℤ pos a)) ≤ℤ ((pos b -ℤ pos a) *ℤ pos j) = simp linear (omega (arith, mul-le-mul-right x p, mul-le-mul-right j q)) in
+      let m = floor-mono h l in
+      let n = rw (floor-multiple (pos lo -ℤ pos a) h) at m in
+      simp linear (omega (arith, simp linear at n))
+
+  mean-high : (hi : ℕ) → a ≤ hi → b ≤ hi → (pos a +ℤ floorDiv ((pos b -ℤ pos a) *ℤ pos j) (x + j)) ≤ℤ pos hi
+  mean-high hi p q =
+      let l : ((pos b -ℤ pos a) *ℤ pos j) ≤ℤ (pos (x + j) *ℤ (pos hi -ℤ pos a)) = simp linear (omega (arith, mul-le-mul-right x p, mul-le-mul-right j q)) in
+      let m = floor-mono h l in
+      let n = rw (floor-multiple (pos hi -ℤ pos a) h) at m in
+      simp linear (omega (arith, simp linear at n))
+
+-- a glide's rates lie where R0 and R1 lie
+module _ (g : Ramp) (j : ℕ) (some : 0 < g .count) (within : j ≤ g .count) where
+  pub glide-low : (lo : ℕ) → lo ≤ g .start → lo ≤ g .target → lo ≤ glideRate g j
+  unfolding glideRate
+  glide-low lo p q =
+      let e : g .count - j + j ≡ g .count = omega arith in
+      let m = rw e at (mean-low (g .start) (g .target) (g .count - j) j (omega arith) lo p q) in
+      simp linear (omega (arith, simp linear at m))
+
+  pub glide-high : (hi : ℕ) → g .start ≤ hi → g .target ≤ hi → glideRate g j ≤ hi
+  unfolding glideRate
+  glide-high hi p q =
+      let e : g .count - j + j ≡ g .count = omega arith in
+      let l = rw e at (mean-low (g .start) (g .target) (g .count - j) j (omega arith) 0 (omega arith) (omega arith)) in
+      let m = rw e at (mean-high (g .start) (g .target) (g .count - j) j (omega arith) hi p q) in
+      simp linear (omega (arith, simp linear at l, simp linear at m))
+
+-- one output more of a glide
+next : Ramp → Ramp
+next g = let j = suc (g .done) in cond (eqb j (g .count)) noGlide (record { start = g .start; target = g .target; count = g .count; done = j })
+
+-- its last output leaves none, and any other has an output left
+next-sound : {T : ℕ} {g : Ramp} → RampSound T g → (next g .count ≡ 0 → ⊥) → RampSound T (next g)
+unfolding next
+next-sound {T} {g} r = go (ℕ-discrete (suc (g .done)) (g .count))
+  where
+    go : Dec (suc (g .done) ≡ g .count) → (next g .count ≡ 0 → ⊥) → RampSound T (next g)
+    go (yes e) = rw (eq-eqb (suc (g .done)) (g .count) e) (λ n. absurd (n refl))
+    go (no e) = rw (ne-eqb (suc (g .done)) (g .count) e) (λ n. record {
+      start-low = r .start-low;
+      start-high = r .start-high;
+      target-low = r .target-low;
+      target-high = r .target-high;
+      count-high = r .count-high;
+      done-high = omega (arith, r .done-high);
+    })
+
+top-either : (b : Bool) (c d : Control) → d .top ≡ c .top → cond b c d .top ≡ c .top
+top-either true c d e = refl
+top-either false c d e = e
+
+pub moveGlide-top : (c : Control) → moveGlide c .top ≡ c .top
+unfolding moveGlide
+moveGlide-top c = top-either (eqb (c .glide .count) 0) c _ refl
+
+-- the new rate lies where both ends of the glide lie
+pub moveGlide-sound : {F : ℕ} {c : Control} → Sound F c → Sound F (moveGlide c)
+unfolding moveGlide next
+moveGlide-sound {F} {c} s = go (ℕ-discrete (c .glide .count) 0)
+  where
+    go : Dec (c .glide .count ≡ 0) → Sound F (moveGlide c)
+    go (yes z) = rw (eq-eqb (c .glide .count) 0 z) s
+    go (no z) =
+        let g = c .glide in
+        let j = suc (g .done) in
+        let r = s .glide-sound z in
+        let low = glide-low g j (omega arith) (r .done-high) (2 ^ 23) (r .start-low) (r .target-low) in
+        let high = glide-high g j (omega arith) (r .done-high) (2 ^ (28 + c .top) - 1) (omega (arith, r .start-high)) (omega (arith, r .target-high)) in
+        rw (ne-eqb (g .count) 0 z) (moved-sound s (glideRate g j) low (omega (arith, r .start-high, high)) (next g) (next-sound r) (c .position) (s .position-high))
+
+-- ---- points
+
+≤-either : (b : Bool) {m n k : ℕ} → m ≤ k → n ≤ k → cond b m n ≤ k
+≤-either true h l = h
+≤-either false h l = l
+
+-- what a point reads lies in range: levels 0..T, i up to F, P up to 2^60
+module _ {F : ℕ} {c : Control} (s : Sound F c) where
+  pub plan-old : pointPlan c .old ≤ c .top
+  unfolding pointPlan
+  plan-old = s .from-high
+
+  pub plan-new : pointPlan c .new ≤ c .top
+  unfolding pointPlan fadeTarget
+  plan-new = ≤-either (eqb (c .fade .step) 0) (asked-≤ (c .rate) (c .top) (s .rate-high)) (s .to-high)
+
+  pub plan-step : pointPlan c .step ≤ F
+  unfolding pointPlan
+  plan-step = ≤-either (eqb (c .fade .from) (fadeTarget c)) (omega arith) (s .step-low)
+
+  pub plan-position : pointPlan c .position ≤ 2 ^ 60
+  unfolding pointPlan
+  plan-position = s .position-high
+
+-- i is 0 where both levels are the same, and only there
+module _ (c : Control) where
+  plan-rests : pointPlan c .step ≡ 0 → pointPlan c .old ≡ pointPlan c .new
+  unfolding pointPlan
+  plan-rests = go (ℕ-discrete (c .fade .from) (fadeTarget c))
+    where
+      go : Dec (c .fade .from ≡ fadeTarget c) → pointPlan c .step ≡ 0 → c .fade .from ≡ fadeTarget c
+      go (yes e) = λ z. e
+      go (no e) = rw (ne-eqb (c .fade .from) (fadeTarget c) e) (λ z. absurd (omega arith))
+
+  plan-fades : (pointPlan c .step ≡ 0 → ⊥) → pointPlan c .old ≡ pointPlan c .new → ⊥
+  unfolding pointPlan
+  plan-fades n e = n (rw (eq-eqb (c .fade .from) (fadeTarget c) e))
+
+pub movePoint-top : (F : ℕ) (c : Control) → movePoint F c .top ≡ c .top
+unfolding movePoint
+movePoint-top F c = refl
+
+-- a fade that has reached F is at rest on its new level; F is above 0, since i is below it
+pub movePoint-sound : {F : ℕ} {c : Control} → Sound F c → Sound F (movePoint F c)
+unfolding movePoint fadeAfter advance
+movePoint-sound {F} {c} s = go (ℕ-discrete (pointPlan c .step) F)
+  where
+    after : (f : Fade) → f .from ≤ c .top → f .to ≤ c .top → f .step < F → (f .step ≡ 0 → f .from ≡ f .to) → ((f .step ≡ 0 → ⊥) → f .from ≡ f .to → ⊥) → Sound F (record { top = c .top; fade = f; rate = c .rate; glide = c .glide; position = advance (c .position) (c .rate) })
+    after f from to step resting fading = record {
+      top-high = s .top-high;
+      from-high = from;
+      to-high = to;
+      step-low = step;
+      resting = resting;
+      fading = fading;
+      rate-low = s .rate-low;
+      rate-high = s .rate-high;
+      glide-sound = s .glide-sound;
+      position-high = min-le-right (c .position + c .rate) (2 ^ 60);
+    }
+
+    go : Dec (pointPlan c .step ≡ F) → Sound F (movePoint F c)
+    go (yes e) = rw (eq-eqb (pointPlan c .step) F e) (after (noFade (pointPlan c .new)) (plan-new s) (plan-new s) (omega (arith, s .step-low)) (λ z. refl) (λ n. absurd (n refl)))
+    go (no e) = rw (ne-eqb (pointPlan c .step) F e) (after _ (plan-old s) (plan-new s) (omega (arith, plan-step s)) (plan-rests c) (plan-fades c))
+
+-- ---- outputs
+
+pub moveOutput-top : (F : ℕ) (c : Control) → moveOutput F c .top ≡ c .top
+unfolding moveOutput
+moveOutput-top F c = movePoint-top F (movePoint F (moveGlide c)) ∙ movePoint-top F (moveGlide c) ∙ moveGlide-top c
+
+pub moveOutput-sound : {F : ℕ} {c : Control} → Sound F c → Sound F (moveOutput F c)
+unfolding moveOutput
+moveOutput-sound s = movePoint-sound (movePoint-sound (moveGlide-sound s))
