@@ -2,4 +2,9 @@ pub mod ExactLevels
 pub mod Contraction
 pub mod Scaled
 pub mod Distance
+pub mod Related
+pub mod Calls
+pub mod Cuts
+pub mod Induction
+pub mod Theorem
 pub mod Instance
