@@ -6,4 +6,5 @@ pub mod Bits
 pub mod Floor
 pub mod Sum
 pub mod Lists
+pub mod Parts
 pub mod Tests

@@ -1,6 +1,6 @@
 -- The laws of `eqZ`, `within` and `every`. Assumes nothing.
 use mathlib.Core.Path.{_≡_, refl, sym, ap, ap₂, _∙_}
-use mathlib.Core.Bool.{Bool, true, false, not, _&&_}
+use mathlib.Core.Bool.{Bool, true, false, not, _&&_, _||_}
 use Prim.Native.Nat.{ℕ, zero, suc, _+_, _*_, _≤_, _<_}
 use native.Mathlib.Nat.{add-zero, add-suc, not-suc-le-zero}
 use native.Mathlib.Numerals.{add-one}
@@ -29,6 +29,16 @@ pub &&-right : (s t : Bool) → s && t ≡ true → t ≡ true
 
 pub &&-both : {s t : Bool} → s ≡ true → t ≡ true → s && t ≡ true
 &&-both e f = rw (e, f)
+
+-- ---- neither of two conditions
+
+pub ||-left : (s t : Bool) → s || t ≡ false → s ≡ false
+||-left true t e = e
+||-left false t e = refl
+
+pub ||-right : (s t : Bool) → s || t ≡ false → t ≡ false
+||-right true t e = let z : _≡_ {A = ℕ} 0 1 = cc in absurd (omega arith)
+||-right false t e = e
 
 -- ---- a test that a function made: its result t is the definition's u, and the code looked at `!t`
 

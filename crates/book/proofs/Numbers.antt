@@ -31,3 +31,8 @@ pub otherwise-first : (m n : ℕ) → (m ≡ 0 → ⊥) → m otherwise n ≡ m
 unfolding _otherwise_
 otherwise-first zero n h = absurd (h refl)
 otherwise-first (suc m) n h = refl
+
+-- and one that is not given leaves the next
+pub zero-otherwise : (n : ℕ) → 0 otherwise n ≡ n
+unfolding _otherwise_
+zero-otherwise n = refl

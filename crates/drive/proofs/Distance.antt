@@ -16,6 +16,7 @@ use Rattle.book.specs.Book.{sizesOf, levelTaps}
 use Rattle.player.specs.Moves.{Plan}
 use Rattle.player.specs.Points.{unit, storeWord, valueSum, value, point}
 use Rattle.player.specs.Outputs.{outputSum}
+use Rattle.drive.specs.Demand.{CloseTo}
 use Rattle.drive.specs.Exact.{exactLevel, exactValue, exactPoint, pointScale, exactScale}
 use Rattle.drive.proofs.Scaled.{apart-times, apart-multiple, near-apart, fade-size, fade-close}
 
@@ -126,7 +127,7 @@ output-scale b T =
 pub output-sum-close : (b : List ℤ) (T : ℕ)
     → ((c d : ℤ) (h h′ : List ℤ) (X : ℕ) → ((k : ℕ) → natAbs (c *ℤ at h k -ℤ d *ℤ at h′ k) ≤ X) → natAbs (c *ℤ outputSum b h -ℤ d *ℤ outputSum b h′) ≤ 32768 * X)
     → (h e : List ℤ) → ((k : ℕ) → 2 * natAbs (pos (pointScale b T) *ℤ at h k -ℤ at e k) ≤ pointScale b T * (2 ^ (T + 2) - 2))
-    → 256 * natAbs (pos (exactScale b T) *ℤ near (outputSum b h) (2 ^ 22) -ℤ outputSum b e) ≤ (126 + 4 * 2 ^ T) * exactScale b T
+    → CloseTo T (exactScale b T) (near (outputSum b h) (2 ^ 22)) (outputSum b e)
 output-sum-close b T sum-apart h e points-close =
     let s = pointScale b T in
     let Z = 2 ^ (T + 2) - 2 in

@@ -11,13 +11,12 @@ use lib.ListN.{length}
 use lib.Pow.{pow-add, pow-pos}
 use Rattle.arith.specs.Floor.{near}
 use Rattle.arith.specs.Lists.{at, wordAt}
-use Rattle.arith.specs.Sum.{sumAround}
 use Rattle.arith.proofs.Linear.{linear, abs-pos-*}
 use Rattle.arith.proofs.Ring.{products, terms}
 use Rattle.arith.proofs.Integers.{abs-triangle, abs-*-≤}
 use Rattle.arith.proofs.Floor.{near-close}
 use Rattle.arith.proofs.Lists.{at-outside, wordAt-bound, length-tabulate, getD-tabulate}
-use Rattle.arith.proofs.Sum.{sumAround-ext, sumAround-abs-*}
+use Rattle.arith.proofs.Sum.{sumAround-ext, sumAround-abs-*, sumAround-linear}
 use Rattle.book.specs.Check.{tapSum}
 use Rattle.levels.specs.Sizes.{halfLength, levelLength}
 use Rattle.levels.specs.Levels.{levelSum, levelWord, levelOf}
@@ -26,12 +25,6 @@ use Rattle.levels.proofs.Around.{around-bound}
 use Rattle.drive.specs.Exact.{exactLevel}
 
 -- ---- sums over taps
-
--- c · Σ f − d · Σ g is one sum
-sumAround-apart : (a : ℕ) (c d : ℤ) (f g : ℤ → ℤ) → c *ℤ sumAround a f -ℤ d *ℤ sumAround a g ≡ sumAround a (λ k. c *ℤ f k -ℤ d *ℤ g k)
-unfolding sumAround
-sumAround-apart zero c d f g = refl
-sumAround-apart (suc a) c d f g = rw (← sumAround-apart a c d f g) (simp products (simp terms (omega arith)))
 
 -- a tap is a common factor of both words
 tapped-apart : (t c d v w : ℤ) → c *ℤ (t *ℤ v) -ℤ d *ℤ (t *ℤ w) ≡ t *ℤ (c *ℤ v -ℤ d *ℤ w)
@@ -48,7 +41,7 @@ module _ (h : List ℤ) (small : tapSum h ≤ 32768) where
       let word′ : ℤ → ℤ = λ k. wordAt level′ (pos (2 * n) +ℤ k) in
       let apart : ℤ → ℤ = λ k. c *ℤ word k -ℤ d *ℤ word′ k in
       rw (
-        sumAround-apart A c d (λ k. at h (natAbs k) *ℤ word k) (λ k. at h (natAbs k) *ℤ word′ k),
+        sumAround-linear A c d (λ k. at h (natAbs k) *ℤ word k) (λ k. at h (natAbs k) *ℤ word′ k),
         sumAround-ext A {g = λ k. at h (natAbs k) *ℤ apart k} (λ k l. tapped-apart (at h (natAbs k)) c d (word k) (word′ k)),
       ) (le-trans (sumAround-abs-* A (at h) apart X (λ k l. close (pos (2 * n) +ℤ k))) (mul-le-mul small (le-refl X)))
 

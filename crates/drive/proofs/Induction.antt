@@ -2,11 +2,11 @@
 -- Assumes those steps: the record `Steps`.
 use mathlib.Core.Path.{_≡_, refl, sym, _∙_}
 use mathlib.Core.List.{List, [], _∷_, _++_}
-use Prim.Native.Nat.{ℕ, zero, suc, _+_, _-_, _*_, _^_, _≤_, _<_}
+use Prim.Native.Nat.{ℕ, zero, suc, _+_, _-_, _<_}
 use native.Mathlib.Nat.{not-suc-le-zero}
 use native.Mathlib.Decide.{decLt, ℕ-discrete}
 use native.Mathlib.Omega.{arith}
-use lib.IntN.{ℤ, pos, natAbs, _-ℤ_, _*ℤ_}
+use lib.IntN.{ℤ}
 use lib.ListN.{length, length-append, List·getD-append}
 use lib.Seq.{getD-append-add}
 use Rattle.arith.specs.Lists.{at}
@@ -19,15 +19,11 @@ use Rattle.player.specs.Calls.{ordered, orderAnswer, seekAnswer}
 use Rattle.drive.specs.Exact.{ExactVoice, exactOutput, exactNext, exactAfter, exactOutputs}
 use Rattle.drive.specs.Lists.{Call, order, seek, play, callNumber, callVoice, callSamples, handedOut}
 use Rattle.drive.specs.Lists.{exactCallNumber, exactAccepted, exactCallVoice, exactCallSums, exactSums}
-use Rattle.drive.specs.Demand.{Close}
+use Rattle.drive.specs.Demand.{CloseTo, Close}
 use Rattle.drive.proofs.Calls.{refused-voice, refused-samples, played-voice, played-samples, ordered-voice, ordered-samples, sought-voice, sought-samples}
 use Rattle.drive.proofs.Calls.{exact-refused-voice, exact-refused-sums, exact-accepted-voice, exact-played-sums, exact-ordered-sums, exact-sought-sums}
 
 -- ---- samples close to their sums
-
--- one sample and its sum, as `Close` states it of each
-abbrev pub CloseTo : ℕ → ℕ → ℤ → ℤ → Type 0
-CloseTo T scale sample exact = 256 * natAbs (pos scale *ℤ sample -ℤ exact) ≤ (126 + 4 * 2 ^ T) * scale
 
 pub close-none : (T scale : ℕ) → Close T scale [] []
 close-none T scale = (refl, λ k l. absurd (not-suc-le-zero l))

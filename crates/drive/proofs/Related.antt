@@ -1,28 +1,27 @@
 -- The two players side by side: what relates their states over a whole list. Assumes nothing.
-use mathlib.Core.Bool.{true, false, not, cond}
-use mathlib.Core.List.{List, _++_}
-use mathlib.Core.Path.{_≡_, refl, sym, ap, ap₂, _∙_}
-use Prim.Native.Nat.{ℕ, suc, _+_, _-_, _*_, _^_, _≤_, _<_}
+use mathlib.Core.List.{List}
+use mathlib.Core.Path.{_≡_, refl, sym, ap, _∙_}
+use Prim.Native.Nat.{ℕ, _+_, _-_, _*_, _^_, _≤_, _<_}
 use native.Mathlib.Nat.{le-trans, mul-pos, mul-le-mul-left}
 use native.Mathlib.Decide.{decLt}
 use native.Mathlib.Omega.{arith}
 use borrow.Author.Tests.{le-leb, le-ltb}
-use lib.Dec.{ltb}
 use lib.IntN.{ℤ, pos, negsuc, negℤ, natAbs, _-ℤ_, _*ℤ_}
 use lib.ListN.{length, length-append, getD-replicate}
-use lib.Pow.{pow-pos, pow-mono}
-use lib.Signed.{_≤ℤ_, leZ-yes}
+use lib.Pow.{pow-pos}
+use lib.Signed.{leZ-yes}
 use Rattle.arith.specs.Floor.{near}
-use Rattle.arith.specs.Lists.{at, wordAt, part}
+use Rattle.arith.specs.Lists.{at, wordAt}
 use Rattle.arith.proofs.Linear.{linear}
 use Rattle.arith.proofs.Integers.{*ℤ-≤ℤ-pos}
 use Rattle.arith.proofs.Lists.{at-outside, wordAt-bound}
 use Rattle.arith.proofs.Tests.{within-half}
 use Rattle.book.specs.Number.{refuse, _otherwise_}
 use Rattle.book.specs.Book.{sizesOf, levelTaps}
-use Rattle.book.specs.Check.{bookNumber, tapSum}
+use Rattle.book.specs.Check.{tapSum}
+use Rattle.book.proofs.Numbers.{zero-otherwise}
 use Rattle.book.proofs.Accepted.{Accepted, accepted, sizes-bounded, levelTaps-sum}
-use Rattle.levels.specs.Sizes.{levelLength, levelStart, storeLength, samplesInRange, topInRange}
+use Rattle.levels.specs.Sizes.{storeLength, topInRange}
 use Rattle.levels.specs.Levels.{levelOf, levelsOf}
 use Rattle.levels.specs.Build.{storeNumber}
 use Rattle.levels.proofs.Laws.{length-levels, level-bound, level-begins}
@@ -41,14 +40,10 @@ use Rattle.player.proofs.Sound.{Sound, play-number, order-number, seek-number}
 use Rattle.player.proofs.Values.{limit-inside, valueSum-apart, valueSum-bound, point-bound}
 use Rattle.drive.specs.Exact.{exactLevel, exactPoint, pointScale, exactScale, exactOutput, ExactVoice, exactFresh, exactNext}
 use Rattle.drive.specs.Lists.{Call, order, seek, play, callNumber, exactBound, exactCallNumber}
-use Rattle.drive.specs.Demand.{Setting, storeOf}
+use Rattle.drive.specs.Demand.{Setting, storeOf, CloseTo}
 use Rattle.drive.proofs.Contraction.{limit-scaled, limit-apart}
 use Rattle.drive.proofs.Distance.{point-close, exactPoint-bound, output-sum-close}
 use Rattle.drive.proofs.ExactLevels.{exact-word-bound, word-close}
-
-zero-otherwise : (n : ℕ) → 0 otherwise n ≡ n
-unfolding _otherwise_
-zero-otherwise n = refl
 
 -- twice the distance of a point from its exact point, over the points' scale
 abbrev pub PointClose : ℕ → ℕ → ℤ → ℤ → Type 0
@@ -180,7 +175,7 @@ module _ (b samples rest : List ℤ) (card : Card) (setting : Setting b samples 
   scale-pos = mul-pos (pow-pos (14 * T + 60)) fade-low
 
   -- the output of related states is close to the exact sum: the limit brings the two no further apart
-  pub output-close : (v : Voice) (e : ExactVoice) → Related v e → 256 * natAbs (pos (exactScale b T) *ℤ output b (v .history) -ℤ exactOutput b T (e .points)) ≤ (126 + 4 * 2 ^ T) * exactScale b T
+  pub output-close : (v : Voice) (e : ExactVoice) → Related v e → CloseTo T (exactScale b T) (output b (v .history)) (exactOutput b T (e .points))
   unfolding output exactOutput
   output-close v e r =
       let s = exactScale b T in

@@ -1,6 +1,5 @@
 -- Demand 3, whole. Assumes nothing.
 use mathlib.Core.List.{List}
-use mathlib.Core.Path.{_≡_}
 use lib.ListN.{length}
 use lib.IntN.{ℤ}
 use Rattle.player.specs.declared.Card.{Card}

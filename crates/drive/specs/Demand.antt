@@ -28,11 +28,17 @@ pub record Setting (b samples : List ℤ) (card : Card) : Type 0 where
 abbrev pub storeOf : List ℤ → List ℤ → Card → List ℤ → List ℤ
 storeOf b samples card rest = levelsOf (levelTaps b) samples (card .top) ++ rest
 
--- as many samples as exact sums, and each sample within (126 + 4 × 2^T)/256 of its sum, which is a whole number over `scale`
+-- the distance that is allowed, in 1/256 of one 16-bit step
+abbrev pub allowed : ℕ → ℕ
+allowed T = 126 + 4 * 2 ^ T
+
+-- a sample lies within that of its exact sum, which is a whole number over `scale`
+abbrev pub CloseTo : ℕ → ℕ → ℤ → ℤ → Type 0
+CloseTo T scale sample sum = 256 * natAbs (pos scale *ℤ sample -ℤ sum) ≤ allowed T * scale
+
+-- as many samples as exact sums, and each sample close to its sum
 abbrev pub Close : ℕ → ℕ → List ℤ → List ℤ → Type 0
-Close T scale samples sums =
-    (length samples ≡ length sums)
-    × ((k : ℕ) → k < length samples → 256 * natAbs (pos scale *ℤ at samples k -ℤ at sums k) ≤ (126 + 4 * 2 ^ T) * scale)
+Close T scale samples sums = (length samples ≡ length sums) × ((k : ℕ) → k < length samples → CloseTo T scale (at samples k) (at sums k))
 
 -- for every list of calls that starts from the voice that the opening returned: each sample that any play handed out is close to the
 -- exact player's sum for it; and two lists hand out the same samples in the same order, and end with the same voice, whenever they have

@@ -16,7 +16,7 @@ use Rattle.book.specs.Check.{tapSum}
 use Rattle.levels.specs.Sizes.{halfLength, levelLength, levelStart, storeLength}
 use Rattle.levels.specs.Levels.{firstLevel, levelSum, levelWord, nextLevel, levelOf, levelsOf}
 use Rattle.levels.proofs.Lengths.{levelStart-zero, storeLength-is, storeLength-suc}
-use Rattle.levels.proofs.Parts.{part-middle, overwrite-behind}
+use Rattle.arith.proofs.Parts.{part-middle, overwrite-behind}
 use Rattle.levels.proofs.Around.{around, around-bound}
 
 -- ---- how long

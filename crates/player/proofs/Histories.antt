@@ -12,14 +12,13 @@ use Rattle.arith.specs.Lists.{at}
 use Rattle.arith.specs.Sum.{sum, total}
 use Rattle.arith.proofs.Lists.{at-outside}
 use Rattle.arith.proofs.Ring.{products, terms}
-use Rattle.arith.proofs.Sum.{sum-ext, sum-abs-*}
+use Rattle.arith.proofs.Sum.{sum-ext, sum-abs-*, total-around, sum-linear}
 use Rattle.book.specs.Book.{sizesOf, decimationTaps}
 use Rattle.book.specs.Check.{tapSum}
 use Rattle.book.proofs.Accepted.{Accepted, decimationTaps-length, decimationTaps-sum}
 use Rattle.player.specs.declared.Control.{Control}
 use Rattle.player.specs.Moves.{Plan, moveGlide, pointPlan, movePoint}
 use Rattle.player.specs.Outputs.{push, pushTwo, outputSum}
-use Rattle.player.proofs.Sums.{total-around, sum-linear}
 
 -- ---- the sum of an output
 

@@ -26,7 +26,8 @@ use Rattle.player.specs.Moves.{noGlide, noFade, freshControl, jumped, gl
 use Rattle.player.specs.Refusals.{glideCountWrong, positionWrong, openNumber, orderInputNumber}
 use Rattle.player.specs.Calls.{freshVoice, openAnswer, ordered}
 use Rattle.player.proofs.Rates.{rate-low, rate-high, asked-≤}
-use Rattle.player.proofs.Sound.{RampSound, Sound, ||-left, ||-right}
+use Rattle.arith.proofs.Tests.{||-left, ||-right}
+use Rattle.player.proofs.Sound.{RampSound, Sound}
 
 -- ---- opening
 

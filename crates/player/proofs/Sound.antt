@@ -9,7 +9,7 @@ use borrow.Author.Tests.{ltb-false, leb-false, eqb-true, eqb-false, leb-true, le
 use lib.Dec.{ltb, leb, eqb}
 use lib.IntN.{ℤ, natAbs}
 use Rattle.arith.specs.Lists.{at}
-use Rattle.arith.proofs.Tests.{every-at, every-all}
+use Rattle.arith.proofs.Tests.{every-at, every-all, ||-left, ||-right}
 use Rattle.book.specs.Number.{refuse, _otherwise_}
 use Rattle.book.proofs.Numbers.{none-first, none-second, condition-fails}
 use Rattle.player.specs.declared.Ramp.{Ramp}
@@ -42,16 +42,6 @@ pub record Sound (F : ℕ) (c : Control) : Type 0 where
 -- the 81 points of a history lie within ±bound
 abbrev pub Within : ℕ → List ℤ → Type 0
 Within bound h = (k : ℕ) → k < 81 → natAbs (at h k) ≤ bound
-
--- ---- neither of two conditions
-
-pub ||-left : (s t : Bool) → s || t ≡ false → s ≡ false
-||-left true t e = e
-||-left false t e = refl
-
-pub ||-right : (s t : Bool) → s || t ≡ false → t ≡ false
-||-right true t e = let z : _≡_ {A = ℕ} 0 1 = cc in absurd (omega arith)
-||-right false t e = e
 
 -- ---- what each condition leaves where it fails
 

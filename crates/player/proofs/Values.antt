@@ -10,20 +10,19 @@ use lib.IntN.{ℤ, pos, negℤ, natAbs, _+ℤ_, _-ℤ_, _*ℤ_, *ℤ-comm}
 use lib.Pow.{pow-pos, pow-mono, pow-add}
 use lib.Signed.{ltZ, _≤ℤ_, ≤ℤ-refl}
 use Rattle.arith.specs.Lists.{wordAt, part}
-use Rattle.arith.specs.Sum.{sum, total}
+use Rattle.arith.specs.Sum.{total}
 use Rattle.arith.specs.Floor.{near}
 use Rattle.arith.proofs.Linear.{linear, lt-yes, lt-no, abs-*}
 use Rattle.arith.proofs.Ring.{products, terms}
 use Rattle.arith.proofs.Integers.{<ℤ-≤ℤ, abs-≤, ≤-abs, ≤ℤ-antisymm, abs-triangle}
 use Rattle.arith.proofs.Floor.{near-bound}
-use Rattle.arith.proofs.Sum.{sum-ext, sum-abs-*, total-*, total-≤}
+use Rattle.arith.proofs.Sum.{sum-ext, sum-abs-*, total-*, total-≤, total-+, total-reverse, sum-linear}
 use Rattle.book.specs.Book.{sizesOf, impulse}
 use Rattle.book.specs.Check.{phaseSum}
 use Rattle.book.proofs.Accepted.{Accepted, sizes-bounded, difference-is, phaseSum-bound}
 use Rattle.levels.specs.Sizes.{levelLength, levelStart}
 use Rattle.player.specs.Moves.{Plan}
 use Rattle.player.specs.Points.{limit, storeWord, unit, phaseAt, offsetAt, coefficient, valueSum, value, point}
-use Rattle.player.proofs.Sums.{total-+, total-reverse, sum-linear}
 
 -- ---- the limit
 

@@ -16,7 +16,7 @@ use Rattle.arith.proofs.Lists.{part-length, paste-none, paste-more, paste-all}
 use Rattle.levels.specs.Sizes.{halfLength}
 use Rattle.levels.specs.Levels.{levelWord, nextLevel}
 use Rattle.levels.proofs.Lengths.{halfLength-inside}
-use Rattle.levels.proofs.Parts.{part-paste}
+use Rattle.arith.proofs.Parts.{part-paste}
 use Rattle.levels.proofs.Laws.{length-next, at-next}
 use Rattle.levels.proofs.halving.next_level.Statement.{statement}
 use Rattle.levels.proofs.halving.next_level.Tie as tie

@@ -12,7 +12,7 @@ use Rattle.arith.specs.Lists.{at, part, overwrite}
 use Rattle.levels.specs.Sizes.{halfLength, levelLength, levelStart, storeLength}
 use Rattle.levels.specs.Levels.{nextLevel, levelOf, levelsOf}
 use Rattle.levels.proofs.Lengths.{levelLength-zero, levelLength-more, levelStart-zero, levelStart-more, storeLength-is, storeLength-more, storeLength-mono}
-use Rattle.levels.proofs.Parts.{overwrite-again, overwrite-length}
+use Rattle.arith.proofs.Parts.{overwrite-again, overwrite-length}
 use Rattle.levels.proofs.Laws.{length-first, length-levels, level-bound, levels-zero, level-begins, levels-more}
 use Rattle.levels.proofs.store.write_levels.Statement.{statement}
 use Rattle.levels.proofs.store.write_levels.Tie as tie
