@@ -13,8 +13,8 @@ use Rattle.arith.specs.Floor.{near}
 use Rattle.arith.specs.Lists.{at, wordAt}
 use Rattle.arith.proofs.Linear.{abs-pos-*}
 use Rattle.book.specs.Book.{sizesOf, levelTaps}
-use Rattle.player.specs.Moves.{Plan}
-use Rattle.player.specs.Points.{unit, storeWord, valueSum, value, point}
+use Rattle.player.specs.declared.Plan.{Plan}
+use Rattle.player.specs.Points.{unit, limitedWord, storeLevel, valueSum, levelValue, value, point}
 use Rattle.player.specs.Outputs.{outputSum}
 use Rattle.drive.specs.Demand.{CloseTo}
 use Rattle.drive.specs.Exact.{exactLevel, exactValue, exactPoint, pointScale, exactScale}
@@ -64,14 +64,14 @@ module _ (b samples store : List ℤ) (S T : ℕ) (top : T ≤ 4)
     (sum-apart : (c d : ℤ) (w w′ : ℤ → ℤ) (X l P : ℕ) → ((i : ℤ) → natAbs (c *ℤ w i -ℤ d *ℤ w′ i) ≤ X)
     → natAbs (c *ℤ valueSum b w l P -ℤ d *ℤ valueSum b w′ l P) ≤ 65536 * unit l * X)
     (words-close : (l : ℕ) → l ≤ T → (i : ℤ)
-    → 2 * natAbs (pos (2 ^ (14 * l)) *ℤ storeWord store S l i -ℤ pos 256 *ℤ wordAt (exactLevel (levelTaps b) samples l) i) ≤ 2 ^ (14 * l) * (2 ^ l - 1)) where
+    → 2 * natAbs (pos (2 ^ (14 * l)) *ℤ limitedWord (storeLevel store S l) l i -ℤ pos 256 *ℤ wordAt (exactLevel (levelTaps b) samples l) i) ≤ 2 ^ (14 * l) * (2 ^ l - 1)) where
   -- a value's sum: four times the words' distance
   value-sum-close : (l P : ℕ) → l ≤ T
-      → 2 * natAbs (pos (2 ^ (14 * l)) *ℤ valueSum b (storeWord store S l) l P -ℤ pos 256 *ℤ exactSum b samples l P) ≤ 2 ^ (14 * l) * (16384 * unit l) * (4 * (2 ^ l - 1))
+      → 2 * natAbs (pos (2 ^ (14 * l)) *ℤ valueSum b (limitedWord (storeLevel store S l) l) l P -ℤ pos 256 *ℤ exactSum b samples l P) ≤ 2 ^ (14 * l) * (16384 * unit l) * (4 * (2 ^ l - 1))
   value-sum-close l P below =
       let u = 2 ^ (14 * l) in
       let X = u * (2 ^ l - 1) in
-      let w = storeWord store S l in
+      let w = limitedWord (storeLevel store S l) l in
       let w′ = exactWord b samples l in
       let each : (i : ℤ) → natAbs (pos (2 * u) *ℤ w i -ℤ pos 512 *ℤ w′ i) ≤ X = λ i. omega (arith, apart-times 2 u 256 (w i) (w′ i), words-close l below i) in
       omega (arith, apart-times 2 u 256 (valueSum b w l P) (valueSum b w′ l P), sum-apart (pos (2 * u)) (pos 512) w w′ X l P each)
@@ -79,13 +79,13 @@ module _ (b samples store : List ℤ) (S T : ℕ) (top : T ≤ 4)
   -- a value, at its level's own scale
   level-value-close : (l P : ℕ) → l ≤ T
       → 2 * natAbs (pos (2 ^ (15 * l + 34)) *ℤ value b store S l P -ℤ exactSum b samples l P) ≤ 2 ^ (15 * l + 34) * (2 ^ (l + 2) - 3)
-  unfolding value
+  unfolding value levelValue
   level-value-close l P below =
       let s = 2 ^ (15 * l + 34) in
       let X = 4 * (2 ^ l - 1) in
       let D = 16384 * unit l in
       let u = 2 ^ (14 * l) in
-      let A = valueSum b (storeWord store S l) l P in
+      let A = valueSum b (limitedWord (storeLevel store S l) l) l P in
       let E = exactSum b samples l P in
       let rounded = near-apart u D A (pos 256 *ℤ E) (u * D * X) (unit-pos l) (value-sum-close l P below) in
       let scaled : 2 * natAbs (pos (256 * s) *ℤ near A D -ℤ pos 256 *ℤ E) ≤ 256 * s + 256 * s * X = rw (value-scale l) at rounded in

@@ -29,14 +29,15 @@ use Rattle.player.specs.declared.Card.{Card}
 use Rattle.player.specs.declared.Control.{Control}
 use Rattle.player.specs.declared.Voice.{Voice}
 use Rattle.player.specs.Moves.{freshControl, sought, moveGlide, pointPlan, movePoint, moveOutput}
-use Rattle.player.specs.Points.{limit, storeWord, point}
+use Rattle.player.specs.Points.{limit, limitedWord, storeLevel, point}
 use Rattle.player.specs.Outputs.{pushTwo, outputSum, output, nextVoice}
 use Rattle.player.specs.declared.Order.{Order}
 use Rattle.player.specs.Refusals.{orderNumber, seekNumber, playStateNumber, playNumber}
 use Rattle.player.specs.Calls.{silence, pointBound, freshVoice, ordered, orderAnswer, seekAnswer, playAnswer}
 use Rattle.player.proofs.Histories.{outputSum-apart, pushTwo-all, pushTwo-both}
 use Rattle.player.proofs.Kept.{open-top, fresh-sound, ordered-sound, ordered-top, sought-sound, sought-top, moveGlide-top, moveGlide-sound, movePoint-top, movePoint-sound, moveOutput-top, moveOutput-sound, plan-old, plan-new, plan-step}
-use Rattle.player.proofs.Sound.{Sound, play-number, order-number, seek-number}
+use Rattle.player.specs.Sound.{Sound}
+use Rattle.player.proofs.Sound.{play-number, order-number, seek-number}
 use Rattle.player.proofs.Values.{limit-inside, valueSum-apart, valueSum-bound, point-bound}
 use Rattle.drive.specs.Exact.{exactLevel, exactPoint, pointScale, exactScale, exactOutput, ExactVoice, exactFresh, exactNext}
 use Rattle.drive.specs.Lists.{Call, order, seek, play, callNumber, exactBound, exactCallNumber}
@@ -81,15 +82,15 @@ module _ (b samples rest : List ℤ) (card : Card) (setting : Setting b samples 
 
   -- ---- the store's words are the built ones: each level begins where it should, and the limit on reading does nothing to it
 
-  built-word : (l : ℕ) → l ≤ T → (i : ℤ) → storeWord store S l i ≡ wordAt (levelOf (levelTaps b) samples l) i
-  unfolding storeWord
+  built-word : (l : ℕ) → l ≤ T → (i : ℤ) → limitedWord (storeLevel store S l) l i ≡ wordAt (levelOf (levelTaps b) samples l) i
+  unfolding limitedWord storeLevel
   built-word l h i =
       let level = levelOf (levelTaps b) samples l in
       let begins = level-begins (levelTaps b) samples rest T l h in
       ap (λ words. limit (negℤ (pos (2 ^ (23 + l)))) (pos (2 ^ (23 + l))) (wordAt words i)) begins
       ∙ limit-inside (2 ^ (23 + l)) (wordAt level i) (wordAt-bound level (2 ^ (23 + l)) (level-bound (levelTaps b) samples taps-small samples-small l) i)
 
-  words-close : (l : ℕ) → l ≤ T → (i : ℤ) → 2 * natAbs (pos (2 ^ (14 * l)) *ℤ storeWord store S l i -ℤ pos 256 *ℤ wordAt (exactLevel (levelTaps b) samples l) i) ≤ 2 ^ (14 * l) * (2 ^ l - 1)
+  words-close : (l : ℕ) → l ≤ T → (i : ℤ) → 2 * natAbs (pos (2 ^ (14 * l)) *ℤ limitedWord (storeLevel store S l) l i -ℤ pos 256 *ℤ wordAt (exactLevel (levelTaps b) samples l) i) ≤ 2 ^ (14 * l) * (2 ^ l - 1)
   words-close l h i = rw (built-word l h i) (word-close (levelTaps b) samples taps-small l i)
 
   words-small : (l : ℕ) → l ≤ T → (i : ℤ) → natAbs (wordAt (exactLevel (levelTaps b) samples l) i) ≤ 2 ^ (15 + 15 * l)

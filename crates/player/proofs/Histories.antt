@@ -17,7 +17,8 @@ use Rattle.book.specs.Book.{sizesOf, decimationTaps}
 use Rattle.book.specs.Check.{tapSum}
 use Rattle.book.proofs.Accepted.{Accepted, decimationTaps-length, decimationTaps-sum}
 use Rattle.player.specs.declared.Control.{Control}
-use Rattle.player.specs.Moves.{Plan, moveGlide, pointPlan, movePoint}
+use Rattle.player.specs.declared.Plan.{Plan}
+use Rattle.player.specs.Moves.{moveGlide, pointPlan, movePoint}
 use Rattle.player.specs.Outputs.{push, pushTwo, outputSum}
 
 -- ---- the sum of an output

@@ -27,7 +27,7 @@ use Rattle.player.specs.Refusals.{glideCountWrong, positionWrong, openNu
 use Rattle.player.specs.Calls.{freshVoice, openAnswer, ordered}
 use Rattle.player.proofs.Rates.{rate-low, rate-high, asked-≤}
 use Rattle.arith.proofs.Tests.{||-left, ||-right}
-use Rattle.player.proofs.Sound.{RampSound, Sound}
+use Rattle.player.specs.Sound.{RampSound, Sound}
 
 -- ---- opening
 

@@ -12,32 +12,10 @@ use Rattle.arith.specs.Lists.{at}
 use Rattle.arith.proofs.Tests.{every-at, every-all, ||-left, ||-right}
 use Rattle.book.specs.Number.{refuse, _otherwise_}
 use Rattle.book.proofs.Numbers.{none-first, none-second, condition-fails}
-use Rattle.player.specs.declared.Ramp.{Ramp}
 use Rattle.player.specs.declared.Control.{Control}
 use Rattle.player.specs.declared.Order.{Order}
+use Rattle.player.specs.Sound.{RampSound, Sound}
 use Rattle.player.specs.Refusals.{outputCountWrong, positionWrong, levelsWrong, fadeWrong, rateWrong, glideWrong, historyWrong, lateNumber, orderInputNumber, orderNumber, seekNumber, playStateNumber}
-
--- a glide under way: its rates are those of top level T, and an output of it is left
-pub record RampSound (T : ℕ) (g : Ramp) : Type 0 where
-  pub start-low : 2 ^ 23 ≤ g .start
-  pub start-high : g .start < 2 ^ (28 + T)
-  pub target-low : 2 ^ 23 ≤ g .target
-  pub target-high : g .target < 2 ^ (28 + T)
-  pub count-high : g .count ≤ 65536
-  pub done-high : g .done < g .count
-
--- a control that none of 13 to 16 refuses, for fades of F points
-pub record Sound (F : ℕ) (c : Control) : Type 0 where
-  pub top-high : c .top ≤ 4
-  pub from-high : c .fade .from ≤ c .top
-  pub to-high : c .fade .to ≤ c .top
-  pub step-low : c .fade .step < F
-  pub resting : c .fade .step ≡ 0 → c .fade .from ≡ c .fade .to
-  pub fading : (c .fade .step ≡ 0 → ⊥) → c .fade .from ≡ c .fade .to → ⊥
-  pub rate-low : 2 ^ 23 ≤ c .rate
-  pub rate-high : c .rate < 2 ^ (28 + c .top)
-  pub glide-sound : (c .glide .count ≡ 0 → ⊥) → RampSound (c .top) (c .glide)
-  pub position-high : c .position ≤ 2 ^ 60
 
 -- the 81 points of a history lie within ±bound
 abbrev pub Within : ℕ → List ℤ → Type 0

@@ -9,7 +9,7 @@ use lib.Dec.{eqb}
 use lib.IntN.{ℤ, pos, negℤ, natAbs, _+ℤ_, _-ℤ_, _*ℤ_, *ℤ-comm}
 use lib.Pow.{pow-pos, pow-mono, pow-add}
 use lib.Signed.{ltZ, _≤ℤ_, ≤ℤ-refl}
-use Rattle.arith.specs.Lists.{wordAt, part}
+use Rattle.arith.specs.Lists.{wordAt}
 use Rattle.arith.specs.Sum.{total}
 use Rattle.arith.specs.Floor.{near}
 use Rattle.arith.proofs.Linear.{linear, lt-yes, lt-no, abs-*}
@@ -20,9 +20,8 @@ use Rattle.arith.proofs.Sum.{sum-ext, sum-abs-*, total-*, total-≤, total-+, t
 use Rattle.book.specs.Book.{sizesOf, impulse}
 use Rattle.book.specs.Check.{phaseSum}
 use Rattle.book.proofs.Accepted.{Accepted, sizes-bounded, difference-is, phaseSum-bound}
-use Rattle.levels.specs.Sizes.{levelLength, levelStart}
-use Rattle.player.specs.Moves.{Plan}
-use Rattle.player.specs.Points.{limit, storeWord, unit, phaseAt, offsetAt, coefficient, valueSum, value, point}
+use Rattle.player.specs.declared.Plan.{Plan}
+use Rattle.player.specs.Points.{limit, limitedWord, storeLevel, unit, phaseAt, offsetAt, coefficient, valueSum, levelValue, value, point}
 
 -- ---- the limit
 
@@ -57,9 +56,9 @@ module _ (B : ℕ) (x : ℤ) where
   pub limit-inside : natAbs x ≤ B → limit (negℤ (pos B)) (pos B) x ≡ x
   limit-inside h = let b = ≤-abs {a = x} h in limit-same (negℤ (pos B)) (pos B) x (b .1) (b .0)
 
-pub storeWord-bound : (store : List ℤ) (S l : ℕ) (i : ℤ) → natAbs (storeWord store S l i) ≤ 2 ^ (23 + l)
-unfolding storeWord
-storeWord-bound store S l i = limit-bound (2 ^ (23 + l)) (wordAt (part store (levelStart S l) (levelLength S l)) i)
+pub limitedWord-bound : (words : List ℤ) (l : ℕ) (i : ℤ) → natAbs (limitedWord words l i) ≤ 2 ^ (23 + l)
+unfolding limitedWord
+limitedWord-bound words l i = limit-bound (2 ^ (23 + l)) (wordAt words i)
 
 -- ---- phase and offset
 
@@ -182,15 +181,19 @@ module _ (b : List ℤ) (a : Accepted b) where
 
 -- ---- how large values and points are
 
+-- four times a word of its level
+pub levelValue-bound : (b : List ℤ) → Accepted b → (words : List ℤ) (l P : ℕ) → natAbs (levelValue b words l P) ≤ 2 ^ (25 + l)
+unfolding levelValue
+levelValue-bound b a words l P =
+    let s = valueSum b (limitedWord words l) l P in
+    let four : 2 ^ (25 + l) ≡ 4 * 2 ^ (23 + l) = omega (arith, pow-add 2 25 l, pow-add 2 23 l) in
+    let h : natAbs s ≤ 65536 * unit l * 2 ^ (23 + l) = valueSum-bound b a (limitedWord words l) (2 ^ (23 + l)) l P (limitedWord-bound words l) in
+    near-bound s {b = 16384 * unit l} (omega (arith, unit-pos l)) (2 ^ (25 + l)) (rw four (omega arith))
+
 module _ (b : List ℤ) (a : Accepted b) (store : List ℤ) (S : ℕ) where
-  -- four times a word of its level
   pub value-bound : (l P : ℕ) → natAbs (value b store S l P) ≤ 2 ^ (25 + l)
   unfolding value
-  value-bound l P =
-      let s = valueSum b (storeWord store S l) l P in
-      let four : 2 ^ (25 + l) ≡ 4 * 2 ^ (23 + l) = omega (arith, pow-add 2 25 l, pow-add 2 23 l) in
-      let h : natAbs s ≤ 65536 * unit l * 2 ^ (23 + l) = valueSum-bound b a (storeWord store S l) (2 ^ (23 + l)) l P (storeWord-bound store S l) in
-      near-bound s {b = 16384 * unit l} (omega (arith, unit-pos l)) (2 ^ (25 + l)) (rw four (omega arith))
+  value-bound l P = levelValue-bound b a (storeLevel store S l) l P
 
   -- of the levels that there are
   value-small : (l P : ℕ) → l ≤ 4 → natAbs (value b store S l P) ≤ 2 ^ 29

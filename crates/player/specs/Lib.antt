@@ -1,5 +1,6 @@
 pub mod Rate
 pub mod Moves
+pub mod Sound
 pub mod Points
 pub mod Outputs
 pub mod Refusals

@@ -8,6 +8,7 @@ use Rattle.arith.specs.Floor.{floorDiv}
 use Rattle.player.specs.declared.Ramp.{Ramp}
 use Rattle.player.specs.declared.Fade.{Fade}
 use Rattle.player.specs.declared.Control.{Control}
+use Rattle.player.specs.declared.Plan.{Plan}
 use Rattle.player.specs.Rate.{askedLevel, advance}
 
 -- ---- glide and fade at rest
@@ -68,14 +69,7 @@ moveGlide c =
 unfoldable pub fadeTarget : Control → ℕ
 fadeTarget c = cond (eqb (c .fade .step) 0) (askedLevel (c .rate)) (c .fade .to)
 
--- what a point is made from: both levels, i, and P. i = 0 stands for no fade.
-pub record Plan : Type 0 where
-  pub old : ℕ
-  pub new : ℕ
-  pub step : ℕ
-  pub position : ℕ
-
--- a fade to the asked level begins where none runs and that level differs from the current one; in a fade i grows by 1
+-- a point's plan: a fade to the asked level begins where none runs and that level differs from the current one; in a fade i grows by 1
 unfoldable pub pointPlan : Control → Plan
 pointPlan c =
     let new = fadeTarget c in

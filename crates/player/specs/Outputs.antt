@@ -9,7 +9,8 @@ use Rattle.arith.specs.Sum.{sum}
 use Rattle.book.specs.Book.{sizesOf, decimationTaps}
 use Rattle.player.specs.declared.Control.{Control}
 use Rattle.player.specs.declared.Voice.{Voice}
-use Rattle.player.specs.Moves.{Plan, moveGlide, pointPlan, movePoint, moveOutput}
+use Rattle.player.specs.declared.Plan.{Plan}
+use Rattle.player.specs.Moves.{moveGlide, pointPlan, movePoint, moveOutput}
 use Rattle.player.specs.Points.{limit, point}
 
 -- the 81 newest points, newest first, after one more

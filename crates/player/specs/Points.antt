@@ -10,15 +10,19 @@ use Rattle.arith.specs.Lists.{wordAt, part}
 use Rattle.arith.specs.Sum.{sum}
 use Rattle.book.specs.Book.{sizesOf, impulse, difference}
 use Rattle.levels.specs.Sizes.{levelLength, levelStart}
-use Rattle.player.specs.Moves.{Plan}
+use Rattle.player.specs.declared.Plan.{Plan}
 
 -- x, limited to lo..hi
 unfoldable pub limit : ℤ → ℤ → ℤ → ℤ
 limit lo hi x = cond (ltZ x lo) lo (cond (ltZ hi x) hi x)
 
--- word i of level l in a store for S samples, 0 outside the level; a word beyond ±2^(23+l) is read as that limit
-unfoldable pub storeWord : List ℤ → ℕ → ℕ → ℤ → ℤ
-storeWord store S l i = limit (negℤ (pos (2 ^ (23 + l)))) (pos (2 ^ (23 + l))) (wordAt (part store (levelStart S l) (levelLength S l)) i)
+-- word i of level l, whose words are given, 0 outside; a word beyond ±2^(23+l) is read as that limit
+unfoldable pub limitedWord : List ℤ → ℕ → ℤ → ℤ
+limitedWord words l i = limit (negℤ (pos (2 ^ (23 + l)))) (pos (2 ^ (23 + l))) (wordAt words i)
+
+-- the words of level l in a store for S samples
+unfoldable pub storeLevel : List ℤ → ℕ → ℕ → List ℤ
+storeLevel store S l = part store (levelStart S l) (levelLength S l)
 
 -- P counts 2^-(28+l) of a word of level l: t = P / unit
 unfoldable pub unit : ℕ → ℕ
@@ -45,8 +49,11 @@ valueSum b word l P =
     sum N (λ i. let k = suc i in word (pos (P / unit l + k) -ℤ pos (N / 2)) *ℤ coefficient b l P (N - k))
 
 -- a level's value: that sum / 16384, rounded once
+unfoldable pub levelValue : List ℤ → List ℤ → ℕ → ℕ → ℤ
+levelValue b words l P = near (valueSum b (limitedWord words l) l P) (16384 * unit l)
+
 unfoldable pub value : List ℤ → List ℤ → ℕ → ℕ → ℕ → ℤ
-value b store S l P = near (valueSum b (storeWord store S l) l P) (16384 * unit l)
+value b store S l P = levelValue b (storeLevel store S l) l P
 
 -- a point: in a fade near(((F−i) × old + i × new) / F), both levels being read at P; else the current level's value
 unfoldable pub point : List ℤ → List ℤ → ℕ → Plan → ℤ

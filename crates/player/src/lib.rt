@@ -36,6 +36,14 @@ pub struct Control {
     pub position: u64,
 }
 
+// What a point is made from: the old and the new level, i (0 where no fade runs) and P.
+pub struct Plan {
+    pub old: u32,
+    pub new: u32,
+    pub step: u32,
+    pub position: u64,
+}
+
 // A voice: its control, and the last 81 points, newest first.
 pub struct Voice {
     pub control: Control,
