@@ -16,10 +16,11 @@ use Rattle.arith.specs.Tests.{eqZ, every, within}
 use Rattle.arith.proofs.Lists.{part-length}
 use Rattle.arith.proofs.Sum.{total-ext, total-first}
 use Rattle.arith.proofs.Tests.{&&-left, &&-right, every-at, eqZ-true, within-half}
+use Rattle.book.specs.declared.Sizes.{Sizes}
 use Rattle.book.specs.Number.{refuse}
 use Rattle.book.specs.Book.{sizesOf, levelTapsAt, decimationTapsAt, bookLength, impulseWord, impulse, difference, levelTaps, decimationTaps}
 use Rattle.book.specs.Check.{sizesInRange, wordsInRange, coefficientsInRange, differencesRight, phaseSum, tapSum, sumsInRange, bookNumber}
-use Rattle.book.proofs.Bounds.{Bounded, bounded, decimation-at, end-at, row-below}
+use Rattle.book.proofs.Bounds.{Bounded, bounded, decimation-at, end-at, row-below, array-high, length-is}
 use Rattle.book.proofs.Numbers.{none-first, none-second, not-refused}
 use Rattle.book.proofs.Parts.{impulse-stored, impulse-past, impulse-end}
 
@@ -116,3 +117,12 @@ module _ (b : List ℤ) (a : Accepted b) where
       go : Dec (q < sizesOf b .phases) → phaseSum b q ≤ 65536
       go (yes l) = phaseSum-below q l
       go (no l) = let e : q ≡ sizesOf b .phases = omega arith in rw e (le-trans phaseSum-past (phaseSum-below 0 (sizes-bounded .phases-low)))
+
+-- ---- the sizes that were read, and the book's length by them
+
+pub sizes-room : (b : List ℤ) → Accepted b → (s : Sizes) → s ≡ sizesOf b
+    → (length b ≡ 5 + s .phases * s .taps + s .phases * s .taps + (s .reach + 1) + (s .decimation + 1)) × (s .phases * s .taps ≤ 3072) × (s .reach ≤ 40) × (s .decimation ≤ 40)
+sizes-room b a s e =
+    let f : Bounded s = rw e (sizes-bounded b a) in
+    let l : length b ≡ bookLength s = a .lengthy ∙ ap bookLength (sym e) in
+    (l ∙ length-is s, array-high f, f .reach-high, f .decimation-high)

@@ -6,7 +6,7 @@ ghost use Prim.Native.Nat.{_^_, _≤_, _<_};
 ghost use lib.IntN.{natAbs};
 ghost use lib.ListN.{length};
 ghost use Rattle.arith.specs.Lists.{at};
-ghost use Rattle.book.specs.Book.{sizesOf, levelTaps};
+ghost use Rattle.book.specs.Book.{sizesOf, levelTaps, decimationTaps};
 ghost use Rattle.book.specs.Check.{bookNumber};
 
 mod differences; // number 6
@@ -93,4 +93,15 @@ pub fn level_taps(book: &[i32]) -> &[i32]
     let start = 5 + array + array;
     let end = start + (s.reach + 1);
     &book[start..end]
+}
+
+// The decimation taps g[0] .. g[B] of an accepted book: all that lies behind the level taps.
+pub fn decimation_taps(book: &[i32]) -> &[i32]
+    requires { ⌜ bookNumber (now book) ≡ 0 ⌝ }
+    ensures { λ r. ⌜ now r ≡ decimationTaps (now (book .entry)) ⌝ }
+{
+    let s = read_sizes(book);
+    let array = s.phases * s.taps;
+    let start = 5 + array + array + (s.reach + 1);
+    &book[start..]
 }

@@ -69,27 +69,27 @@ unfolding tapSum total
 tap-bound h zero l = omega arith
 tap-bound h (suc k) l = omega (arith, total-mono (suc k) (pred (length h)) (λ i. natAbs (at h (suc i))) (omega arith))
 
--- ---- each number on the way fits, where the words are at most 2 ^ 26
+-- ---- each number on the way fits, where the words are at most 2 ^ 29
 
-pub word-fits : (x : ℤ) → natAbs x ≤ 2 ^ 26 → SFits w32 x
+pub word-fits : (x : ℤ) → natAbs x ≤ 2 ^ 29 → SFits w32 x
 word-fits x l = abs-fits w32 x (omega arith)
 
-pub pair-fits : (x y : ℤ) → natAbs x ≤ 2 ^ 26 → natAbs y ≤ 2 ^ 26 → SFits w64 (x +ℤ y)
+pub pair-fits : (x y : ℤ) → natAbs x ≤ 2 ^ 29 → natAbs y ≤ 2 ^ 29 → SFits w64 (x +ℤ y)
 pair-fits x y l m = abs-fits w64 (x +ℤ y) (omega (arith, abs-triangle x y))
 
 module _ (h : List ℤ) (small : tapSum h ≤ 32768) where
   pub tap-fits : (k : ℕ) → k < length h → SFits w32 (at h k)
   tap-fits k l = abs-fits w32 (at h k) (omega (arith, tap-bound h k l))
 
-  pub tapped-fits : (k : ℕ) → k < length h → (x y : ℤ) → natAbs x ≤ 2 ^ 26 → natAbs y ≤ 2 ^ 26 → SFits w64 (at h k *ℤ (x +ℤ y))
+  pub tapped-fits : (k : ℕ) → k < length h → (x y : ℤ) → natAbs x ≤ 2 ^ 29 → natAbs y ≤ 2 ^ 29 → SFits w64 (at h k *ℤ (x +ℤ y))
   tapped-fits k l x y m n =
       abs-fits w64 (at h k *ℤ (x +ℤ y)) (omega (
         arith,
-        abs-*-≤ (at h k) (x +ℤ y) {m = 32768} {n = 2 ^ 27} (omega (arith, tap-bound h k l)) (omega (arith, abs-triangle x y)),
+        abs-*-≤ (at h k) (x +ℤ y) {m = 32768} {n = 2 ^ 30} (omega (arith, tap-bound h k l)) (omega (arith, abs-triangle x y)),
       ))
 
-  pub around-fits : (level : List ℤ) (centre : ℕ) → ((k : ℕ) → natAbs (at level k) ≤ 2 ^ 26) → (k : ℕ) → k ≤ length h → SFits w64 (around h level centre k)
-  around-fits level centre bound k l = abs-fits w64 (around h level centre k) (omega (arith, around-bound h level centre small (2 ^ 26) bound k l))
+  pub around-fits : (level : List ℤ) (centre : ℕ) → ((k : ℕ) → natAbs (at level k) ≤ 2 ^ 29) → (k : ℕ) → k ≤ length h → SFits w64 (around h level centre k)
+  around-fits level centre bound k l = abs-fits w64 (around h level centre k) (omega (arith, around-bound h level centre small (2 ^ 29) bound k l))
 
-  pub first-fits : (level : List ℤ) (centre : ℕ) → ((k : ℕ) → natAbs (at level k) ≤ 2 ^ 26) → 1 ≤ length h → SFits w64 (at h 0 *ℤ at level centre)
+  pub first-fits : (level : List ℤ) (centre : ℕ) → ((k : ℕ) → natAbs (at level k) ≤ 2 ^ 29) → 1 ≤ length h → SFits w64 (at h 0 *ℤ at level centre)
   first-fits level centre bound l = rw (← around-one h level centre) (around-fits level centre bound 1 l)

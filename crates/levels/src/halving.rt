@@ -11,10 +11,10 @@ ghost use Rattle.levels.specs.Sizes.{halfLength};
 ghost use Rattle.levels.specs.Levels.{levelWord, nextLevel};
 use crate::sizes::half_length;
 
-// The sum around word `centre` where all of it lies inside the level: no word is tested.
-fn inner_sum(level: &[i32], taps: &[i32], centre: usize) -> i64
+// The sum of taps times words around word `centre`, where all of it lies inside the level: no word is tested.
+pub fn centred_sum(level: &[i32], taps: &[i32], centre: usize) -> i64
     requires { ⌜ (1 ≤ length (now taps)) × (tapSum (now taps) ≤ 32768) × (length (now taps) ≤ centre + 1) × (centre + length (now taps) ≤ length (now level)) ⌝ }
-    requires { ⌜ ((k : ℕ) → natAbs (at (now level) k) ≤ 2 ^ 26) ⌝ }
+    requires { ⌜ ((k : ℕ) → natAbs (at (now level) k) ≤ 2 ^ 29) ⌝ }
     ensures { λ r. ⌜ r ≡ sumAround (pred (length (now (taps .entry)))) (λ k. at (now (taps .entry)) (natAbs k) *ℤ wordAt (now (level .entry)) (pos centre +ℤ k)) ⌝ }
 {
     let mut sum = taps[0] as i64 * level[centre] as i64;
@@ -53,7 +53,7 @@ fn word_after(level: &[i32], centre: usize, k: usize) -> i64
 // The same sum near an edge, words outside the level being 0.
 fn edge_sum(level: &[i32], taps: &[i32], centre: usize) -> i64
     requires { ⌜ (1 ≤ length (now taps)) × (length (now taps) ≤ 41) × (tapSum (now taps) ≤ 32768) × (centre < length (now level)) ⌝ }
-    requires { ⌜ ((k : ℕ) → natAbs (at (now level) k) ≤ 2 ^ 26) ⌝ }
+    requires { ⌜ ((k : ℕ) → natAbs (at (now level) k) ≤ 2 ^ 29) ⌝ }
     ensures { λ r. ⌜ r ≡ sumAround (pred (length (now (taps .entry)))) (λ k. at (now (taps .entry)) (natAbs k) *ℤ wordAt (now (level .entry)) (pos centre +ℤ k)) ⌝ }
 {
     let mut sum = taps[0] as i64 * level[centre] as i64;
@@ -75,7 +75,7 @@ fn level_word(level: &[i32], taps: &[i32], n: usize) -> i32
     let reach = taps.len() - 1;
     if reach <= centre {
         if reach < level.len() - centre {
-            return arith::near(inner_sum(level, taps, centre), 16384) as i32;
+            return arith::near(centred_sum(level, taps, centre), 16384) as i32;
         }
     }
     arith::near(edge_sum(level, taps, centre), 16384) as i32

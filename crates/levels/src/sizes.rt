@@ -1,8 +1,9 @@
 // Lengths of levels and stores.
 
 ghost use mathlib.Core.Path.{_≡_};
-ghost use Prim.Native.Nat.{_≤_};
-ghost use Rattle.levels.specs.Sizes.{halfLength, storeLength};
+ghost use Prim.Native.Nat.{ℕ, _≤_, _<_};
+ghost use lib.ListN.{getD};
+ghost use Rattle.levels.specs.Sizes.{halfLength, levelStart, storeLength};
 
 // Half of a length, rounded up.
 pub fn half_length(n: usize) -> usize
@@ -25,4 +26,20 @@ pub fn store_length(samples: usize, top: u32) -> usize
         j += 1;
     }
     words
+}
+
+// Where levels 0..4 begin, and in the last place where level 4 ends.
+pub fn level_starts(samples: usize) -> [usize; 6]
+    requires { ⌜ samples ≤ 1048576 ⌝ }
+    ensures { λ r. ⌜ ((j : ℕ) → j < 6 → getD r j 0 ≡ levelStart samples j) ⌝ }
+{
+    let mut starts = [0usize; 6];
+    let mut length = samples;
+    let mut j = 0;
+    while j < 5 {
+        starts[j + 1] = starts[j] + length;
+        length = half_length(length);
+        j += 1;
+    }
+    starts
 }

@@ -1,16 +1,16 @@
 -- `book::level_taps` meets its contract: the part that it hands back is where the definition has the taps. Assumes nothing.
 use borrow.Author.Needs.{needs}
 use mathlib.Core.List.{List}
-use mathlib.Core.Path.{_≡_, sym, ap, _∙_}
+use mathlib.Core.Path.{_≡_, ap, _∙_}
 use Prim.Native.Nat.{ℕ, _+_, _-_, _*_, _≤_}
 use native.Mathlib.Omega.{arith}
 use lib.IntN.{ℤ}
 use lib.ListN.{length}
 use Rattle.arith.specs.Lists.{part}
 use Rattle.book.specs.declared.Sizes.{Sizes}
-use Rattle.book.specs.Book.{sizesOf, differencesAt, levelTapsAt, bookLength, levelTaps}
-use Rattle.book.proofs.Accepted.{Accepted, accepted, sizes-bounded}
-use Rattle.book.proofs.Bounds.{Bounded, array-high, length-is}
+use Rattle.book.specs.Book.{sizesOf, differencesAt, levelTapsAt, levelTaps}
+use Rattle.book.proofs.Accepted.{accepted, sizes-room}
+use Rattle.book.proofs.Bounds.{length-is}
 use Rattle.book.proofs.level_taps.Statement.{statement}
 use Rattle.book.proofs.level_taps.Tie as tie
 
@@ -21,15 +21,9 @@ module _ (c : tie.After-read-sizes) where
   abbrev s : Sizes
   s = c .read-sizes .result
 
-  right : Accepted b
-  right = accepted b (c .before .pre)
-
   -- the part lies in the book, and its place is small
-  room : (5 + s .phases * s .taps + s .phases * s .taps + (s .reach + 1) ≤ length b) × (s .phases * s .taps ≤ 3072) × (s .reach ≤ 40)
-  room =
-      let f : Bounded s = rw (c .read-sizes .ensures) (sizes-bounded b right) in
-      let l : length b ≡ bookLength s = right .lengthy ∙ ap bookLength (sym (c .read-sizes .ensures)) in
-      omega (arith, length-is s, array-high f, f .reach-high)
+  room : (length b ≡ 5 + s .phases * s .taps + s .phases * s .taps + (s .reach + 1) + (s .decimation + 1)) × (s .phases * s .taps ≤ 3072) × (s .reach ≤ 40) × (s .decimation ≤ 40)
+  room = sizes-room b (accepted b (c .before .pre)) s (c .read-sizes .ensures)
 
 -- as many words as the end is past the start
 many : (a n : ℕ) → a + n - a ≡ n

@@ -68,11 +68,11 @@ module _ (c : tie.After-word-after Inv-loop μ-loop) where
   abbrev right : ℤ
   right = c .word-after .result
 
-  left-small : natAbs left ≤ 2 ^ 26
-  left-small = rw (c .before .word-before .ensures) (wordAt-bound (level (s t)) (2 ^ 26) (s t .pre .1) (pos (centre (s t)) -ℤ pos (k t)))
+  left-small : natAbs left ≤ 2 ^ 29
+  left-small = rw (c .before .word-before .ensures) (wordAt-bound (level (s t)) (2 ^ 29) (s t .pre .1) (pos (centre (s t)) -ℤ pos (k t)))
 
-  right-small : natAbs right ≤ 2 ^ 26
-  right-small = rw (c .word-after .ensures) (wordAt-bound (level (s t)) (2 ^ 26) (s t .pre .1) (pos (centre (s t)) +ℤ pos (k t)))
+  right-small : natAbs right ≤ 2 ^ 29
+  right-small = rw (c .word-after .ensures) (wordAt-bound (level (s t)) (2 ^ 29) (s t .pre .1) (pos (centre (s t)) +ℤ pos (k t)))
 
   left-fits : SFits w32 left
   left-fits = word-fits left left-small

@@ -1,9 +1,10 @@
 -- `levels::halving::level_word` meets its contract: either sum is the same one, and rounding it gives a word that fits. Assumes nothing.
 use mathlib.Core.Path.{_≡_, ap, _∙_}
 use Prim.Native.Nat.{_*_, _^_, _≤_}
-use native.Mathlib.Nat.{le-refl}
+use native.Mathlib.Nat.{le-refl, le-trans}
 use native.Mathlib.Omega.{arith}
 use borrow.Author.Needs.{needs}
+use lib.Dec.{lit≤}
 use lib.IntN.{ℤ, natAbs}
 use lib.ListN.{length}
 use lib.Signed.{ltZ-yes, leZ-yes}
@@ -42,20 +43,20 @@ sub-if2 c = search needs
 
 -- ---- inside the level
 
-inner-sum-requires : tie.Need-inner-sum-requires
-inner-sum-requires c κs = search needs
+centred-sum-requires : tie.Need-centred-sum-requires
+centred-sum-requires c κs = let s = c .before .before in ((omega arith, s .pre .0 .2, omega arith, omega arith), λ k. le-trans (s .pre .1 k) (lit≤ tt))
 
-inner-fits : (c : tie.After-inner-sum) → SFits w64 (c .inner-sum .result)
-inner-fits c = record { sfits = c .inner-sum .ok }
+inner-fits : (c : tie.After-centred-sum) → SFits w64 (c .centred-sum .result)
+inner-fits c = record { sfits = c .centred-sum .ok }
 
 near-requires : tie.Need-near-requires
 near-requires c κs =
-    simp (reads, inner-fits c) (rw (c .inner-sum .ensures) (omega (arith, sum-small (c .before .before .before))), (ltZ-yes tt, leZ-yes tt))
+    simp (reads, inner-fits c) (rw (c .centred-sum .ensures) (omega (arith, sum-small (c .before .before .before))), (ltZ-yes tt, leZ-yes tt))
 
 module _ (c : tie.After-near) where
   near-is : c .near .result ≡ word (c .before .before .before .before)
   unfolding levelWord levelSum
-  near-is = (simp (reads, inner-fits (c .before)) at (c .near .ensures)) ∙ ap (λ z. near z 16384) (c .before .inner-sum .ensures)
+  near-is = (simp (reads, inner-fits (c .before)) at (c .near .ensures)) ∙ ap (λ z. near z 16384) (c .before .centred-sum .ensures)
 
   near-fits : SFits w32 (c .near .result)
   near-fits = rw near-is (word-fits (c .before .before .before .before))
@@ -69,7 +70,7 @@ returns c = simp (reads, near-fits c) (near-is c)
 -- ---- near an edge
 
 edge-sum-requires : tie.Need-edge-sum-requires
-edge-sum-requires c κs = search needs
+edge-sum-requires c κs = let s = c .before in (s .pre .0, λ k. le-trans (s .pre .1 k) (lit≤ tt))
 
 edge-fits : (c : tie.After-edge-sum) → SFits w64 (c .edge-sum .result)
 edge-fits c = record { sfits = c .edge-sum .ok }
@@ -99,7 +100,7 @@ level-word-spec =
     mul-centre
     sub-reach
     sub-if2
-    inner-sum-requires
+    centred-sum-requires
     near-requires
     cast-result
     returns

@@ -1,4 +1,4 @@
--- `levels::halving::inner_sum` meets its contract. The loop's invariant: the sum's bits are those of the sum over the taps below k. Assumes nothing.
+-- `levels::halving::centred_sum` meets its contract. The loop's invariant: the sum's bits are those of the sum over the taps below k. Assumes nothing.
 use mathlib.Core.Path.{_≡_, sym, ap}
 use mathlib.Core.List.{List}
 use Prim.Native.Nat.{ℕ, _+_, _-_, _≤_}
@@ -11,8 +11,8 @@ use mir.Facts.{sfits-widen}
 use Rattle.arith.specs.Lists.{at}
 use Rattle.arith.proofs.Bits.{reads}
 use Rattle.levels.proofs.Around.{before-inside, after-inside, around, around-one, around-more, around-fits, first-fits, word-fits, pair-fits, tap-fits, tapped-fits}
-use Rattle.levels.proofs.halving.inner_sum.Statement.{statement}
-use Rattle.levels.proofs.halving.inner_sum.Tie as tie
+use Rattle.levels.proofs.halving.centred_sum.Statement.{statement}
+use Rattle.levels.proofs.halving.centred_sum.Tie as tie
 
 abbrev Inv-loop : tie.InvT-loop
 Inv-loop level taps centre sum₀ k₀ sum k = (1 ≤ k) × (k ≤ length taps) × (sum ≡ ofZ w64 (around taps level centre k))
@@ -175,8 +175,8 @@ returns c =
     let e : a .loop .k ≡ length (taps s) = omega arith in
     simp (a .loop .inv .2, e, reads, partial s (length (taps s)) (omega arith))
 
-pub inner-sum-spec : {M : Type 1} → statement M
-inner-sum-spec =
+pub centred-sum-spec : {M : Type 1} → statement M
+centred-sum-spec =
     tie.close
     (tie.spec
     Inv-loop
