@@ -4,6 +4,7 @@ pub mod Integers
 pub mod Ring
 pub mod Bits
 pub mod Floor
+pub mod Rest
 pub mod Sum
 pub mod Lists
 pub mod Parts

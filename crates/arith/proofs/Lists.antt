@@ -1,13 +1,13 @@
 -- The laws of `wordAt`, `part`, `tabulate` and `overwrite`, and of a loop that writes a list word by word. Assumes nothing.
 use mathlib.Core.Path.{_≡_, refl, ap, _∙_}
-use mathlib.Core.List.{List, _++_}
+use mathlib.Core.List.{List, _++_, append-nil}
 use Prim.Native.Nat.{ℕ, zero, suc, _+_, _≤_, _<_}
 use native.Mathlib.Nat.{le-of-suc-le-suc, not-suc-le-zero, le-refl}
 use native.Mathlib.Numerals.{add-one}
 use native.Mathlib.Omega.{arith}
 use lib.IntN.{ℤ, pos, negsuc, natAbs}
 use lib.ListN.{length, getD, take, drop, set, length-take, length-drop, List·getD-eq-default}
-use lib.Seq.{getD-take, getD-drop, take-all, take-append-le, take-take, paste, paste-zero, paste-suc}
+use lib.Seq.{drop-length, getD-take, getD-drop, take-all, take-append-le, take-take, paste, paste-zero, paste-suc}
 use Rattle.arith.specs.Lists.{at, wordAt, part, tabulate, overwrite}
 
 -- ---- a part
@@ -58,3 +58,10 @@ module _ {A : Type 0} (xs : List A) (a : ℕ) (ys : List A) where
 
 pub take-before : {A : Type 0} (k a : ℕ) (xs zs : List A) → k ≤ a → a ≤ length xs → take k (take a xs ++ zs) ≡ take k xs
 take-before k a xs zs h l = take-append-le k (take a xs) zs (simp length-take (omega arith)) ∙ take-take k a xs h
+
+-- ---- a list that is written over another of its length
+
+pub paste-whole : {A : Type 0} (xs ys : List A) (n : ℕ) → n ≡ length ys → length ys ≡ length xs → paste xs 0 ys n ≡ ys
+paste-whole xs ys n e l =
+    let end : 0 + length ys ≡ length xs = omega arith in
+    paste-all xs 0 ys n e ∙ ap (λ m. ys ++ drop m xs) end ∙ ap (λ r. ys ++ r) (drop-length xs) ∙ append-nil ys

@@ -1,5 +1,5 @@
 -- The laws of finite sums. Assumes nothing.
-use mathlib.Core.Path.{_≡_, refl, sym, ap, ap₂}
+use mathlib.Core.Path.{_≡_, refl, sym, ap, ap₂, _∙_}
 use Prim.Native.Nat.{ℕ, zero, suc, _+_, _-_, _*_, _≤_, _<_}
 use native.Mathlib.Nat.{add-zero, add-suc, le-refl}
 use native.Mathlib.Numerals.{add-one}
@@ -46,6 +46,12 @@ pub sum-split : (m n : ℕ) (f : ℕ → ℤ) → sum (m + n) f ≡ sum m f +ℤ
 unfolding sum
 sum-split m zero f = rw add-zero (simp linear (omega arith))
 sum-split m (suc n) f = rw (add-suc, sum-split m n f) (simp linear (omega arith))
+
+-- the first term apart
+pub sum-first : (n : ℕ) (f : ℕ → ℤ) → sum (suc n) f ≡ f 0 +ℤ sum n (λ k. f (suc k))
+unfolding sum
+sum-first zero f = simp linear (omega arith)
+sum-first (suc n) f = rw (sum-first n f) (simp linear (omega arith))
 
 -- |Σ f k| ≤ Σ g k where |f k| ≤ g k
 pub sum-abs : (n : ℕ) (f : ℕ → ℤ) {g : ℕ → ℕ} → ((k : ℕ) → k < n → natAbs (f k) ≤ g k) → natAbs (sum n f) ≤ total n g
@@ -167,3 +173,19 @@ pub sumAround-linear : (a : ℕ) (c d : ℤ) (f g : ℤ → ℤ) → c *ℤ sumA
 unfolding sumAround
 sumAround-linear zero c d f g = refl
 sumAround-linear (suc a) c d f g = rw (← sumAround-linear a c d f g) (simp products (simp terms (omega arith)))
+
+-- f (−a) + .. + f a: each step adds a term at both ends
+pub sum-around : (a : ℕ) (f : ℤ → ℤ) → sum (2 * a + 1) (λ k. f (pos k -ℤ pos a)) ≡ sumAround a f
+unfolding sum sumAround
+sum-around zero f = simp linear (omega arith)
+sum-around (suc a) f =
+    let n : ℕ = 2 * a + 1 in
+    let g : ℕ → ℤ = λ k. f (pos k -ℤ pos (suc a)) in
+    let count : 2 * suc a + 1 ≡ suc (suc n) = omega arith in
+    let first : g 0 ≡ f (negsuc a) = ap f (simp linear (omega arith)) in
+    let last : g (suc n) ≡ f (pos (suc a)) = ap f (simp linear (omega arith)) in
+    let inner : sum n (λ k. g (suc k)) ≡ sumAround a f = sum-ext n (λ k h. ap f (simp linear (omega arith))) ∙ sum-around a f in
+    rw count (ap₂ _+ℤ_ (sum-first n g ∙ ap₂ _+ℤ_ first inner) last ∙ regroup (f (negsuc a)) (sumAround a f) (f (pos (suc a))))
+  where
+    regroup : (x y z : ℤ) → x +ℤ y +ℤ z ≡ y +ℤ (x +ℤ z)
+    regroup x y z = simp linear (omega arith)

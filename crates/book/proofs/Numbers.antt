@@ -1,5 +1,5 @@
 -- The laws of refusal numbers. Assumes nothing.
-use mathlib.Core.Path.{_≡_, refl}
+use mathlib.Core.Path.{_≡_, refl, sym, _∙_}
 use mathlib.Core.Bool.{Bool, true, false, not}
 use Prim.Native.Nat.{ℕ, zero, suc}
 use native.Mathlib.Omega.{arith}
@@ -36,3 +36,7 @@ otherwise-first (suc m) n h = refl
 pub zero-otherwise : (n : ℕ) → 0 otherwise n ≡ n
 unfolding _otherwise_
 zero-otherwise n = refl
+
+-- a number n that a function gave, the m of a definition, hides those after it
+pub number-stays : {m n : ℕ} (next : ℕ) → n ≡ m → (n ≡ 0 → ⊥) → n ≡ m otherwise next
+number-stays {m} next e given = e ∙ sym (otherwise-first m next (λ z. given (e ∙ z)))

@@ -19,7 +19,7 @@ use Rattle.player.specs.declared.Voice.{Voice}
 use Rattle.player.specs.declared.Order.the-variants.{Jump, Glide}
 use Rattle.player.specs.declared.Answer.{Answer}
 use Rattle.player.specs.Rate.{rateInRange, rateOf, askedLevel, advance}
-use Rattle.player.specs.Moves.{freshControl, jumped, gliding, sought, glideRate, moveGlide, fadeTarget, pointPlan, fadeAfter, movePoint, moveOutput}
+use Rattle.player.specs.Moves.{freshControl, jumped, gliding, sought, glideRate, rampAfter, moveGlide, fadeTarget, pointPlan, fadeAfter, movePoint, moveOutput}
 use Rattle.player.specs.Points.{limit, limitedWord, storeLevel, unit, phaseAt, offsetAt, coefficient, valueSum, levelValue, value, point}
 use Rattle.player.specs.Outputs.{push, pushTwo, outputSum, output, nextVoice, voiceAfter, outputs}
 use Rattle.player.specs.Refusals.{glideCountWrong, outputCountWrong, positionWrong, levelsWrong, fadeWrong, rateWrong, glideWrong, historyWrong, lateNumber, openNumber, orderInputNumber, orderNumber, seekNumber, playStateNumber, playNumber}
@@ -146,5 +146,5 @@ starredCases = caseA ∷ caseB ∷ caseC ∷ caseD ∷ caseE ∷ caseF₁ ∷ ca
 
 -- each case is as stated
 pub starred : map (λ c. c .found) starredCases ≡ map (λ c. c .stated) starredCases
-unfolding starredCases caseA caseB caseC caseD caseE caseF₁ caseF₂ caseG₁ caseG₂ caseH caseI caseJ floorDiv near wordAt tabulate sum total sumAround eqZ every refuse _otherwise_ sizesOf differencesAt levelTapsAt decimationTapsAt bookLength impulseWord impulse difference levelTaps decimationTaps powerOfTwo sizesInRange wordsInRange coefficientsInRange differencesRight phaseSum tapSum sumsInRange bookNumber halfLength levelLength levelStart storeLength samplesInRange topInRange firstLevel levelSum levelWord nextLevel levelOf levelsOf storeNumber buildAnswer ofBits rateInRange rateOf askedLevel advance freshControl jumped gliding sought glideRate moveGlide fadeTarget pointPlan fadeAfter movePoint moveOutput limit limitedWord storeLevel unit phaseAt offsetAt coefficient valueSum levelValue value point push pushTwo outputSum output nextVoice voiceAfter outputs glideCountWrong outputCountWrong positionWrong levelsWrong fadeWrong rateWrong glideWrong historyWrong lateNumber openNumber orderInputNumber orderNumber seekNumber playStateNumber playNumber zeroVoice freshVoice openAnswer ordered orderAnswer seekAnswer playAnswer
+unfolding starredCases caseA caseB caseC caseD caseE caseF₁ caseF₂ caseG₁ caseG₂ caseH caseI caseJ floorDiv near wordAt tabulate sum total sumAround eqZ every refuse _otherwise_ sizesOf differencesAt levelTapsAt decimationTapsAt bookLength impulseWord impulse difference levelTaps decimationTaps powerOfTwo sizesInRange wordsInRange coefficientsInRange differencesRight phaseSum tapSum sumsInRange bookNumber halfLength levelLength levelStart storeLength samplesInRange topInRange firstLevel levelSum levelWord nextLevel levelOf levelsOf storeNumber buildAnswer ofBits rateInRange rateOf askedLevel advance freshControl jumped gliding sought glideRate rampAfter moveGlide fadeTarget pointPlan fadeAfter movePoint moveOutput limit limitedWord storeLevel unit phaseAt offsetAt coefficient valueSum levelValue value point push pushTwo outputSum output nextVoice voiceAfter outputs glideCountWrong outputCountWrong positionWrong levelsWrong fadeWrong rateWrong glideWrong historyWrong lateNumber openNumber orderInputNumber orderNumber seekNumber playStateNumber playNumber zeroVoice freshVoice openAnswer ordered orderAnswer seekAnswer playAnswer
 starred = refl

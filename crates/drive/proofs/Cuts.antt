@@ -10,9 +10,9 @@ use borrow.Author.Tests.{ne-eqb}
 use lib.IntN.{ℤ}
 use lib.ListN.{length, length-append}
 use Rattle.arith.specs.Lists.{tabulate}
-use Rattle.arith.proofs.Lists.{length-tabulate}
 use Rattle.player.specs.declared.Voice.{Voice}
 use Rattle.player.specs.Outputs.{output, nextVoice, voiceAfter, outputs}
+use Rattle.player.proofs.Blocks.{length-outputs}
 use Rattle.drive.specs.Lists.{Call, order, seek, play, callNumber, callVoice, callSamples, endVoice, handedOut, Mark, isPlay, marks}
 use Rattle.drive.proofs.Calls.{refused-voice, refused-samples, played-voice, played-samples, ordered-samples, sought-samples}
 
@@ -51,10 +51,6 @@ module _ (b store : List ℤ) (S : ℕ) where
     where
       later : (k : ℕ) → output b (voiceAfter b store S v (suc (m + k)) .history) ≡ output b (voiceAfter b store S (voiceAfter b store S v m) (suc k) .history)
       later k = rw (← add-suc, voiceAfter-+)
-
-  pub length-outputs : (v : Voice) (n : ℕ) → length (outputs b store S v n) ≡ n
-  unfolding outputs
-  length-outputs v n = length-tabulate n (λ k. output b (voiceAfter b store S v (suc k) .history))
 
   -- ---- what a list's first call does: it makes k outputs and has no mark, or it hands out nothing and has one
 
@@ -113,7 +109,7 @@ module _ (b store : List ℤ) (S : ℕ) where
       go : Does (voiceAfter b store S v k) c → ((v : Voice) (n k : ℕ) → Replayed v n k calls) → Replayed v n k (c ∷ calls)
       go (makes j same-voice same-samples unmarked) rest =
           rw (unmarked (n + k) calls, same-voice, same-samples, ← voiceAfter-+ v k j, ← append-assoc, ← outputs-+ v k j)
-          (simp (length-append, length-outputs, add-assoc) (simp add-assoc at (rest v n (k + j))))
+          (simp (length-append, length-outputs b store S, add-assoc) (simp add-assoc at (rest v n (k + j))))
       go (acts none marked) rest =
           let u = callVoice b store S (voiceAfter b store S v k) c in
           let e : n + k - n ≡ k = omega arith in

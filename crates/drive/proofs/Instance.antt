@@ -20,7 +20,7 @@ use Rattle.levels.specs.Build.{storeNumber}
 use Rattle.player.specs.declared.Card.{Card}
 use Rattle.player.specs.declared.Order.the-variants.{Jump}
 use Rattle.player.specs.Rate.{rateInRange, rateOf, askedLevel, advance}
-use Rattle.player.specs.Moves.{freshControl, jumped, sought, moveGlide, fadeTarget, pointPlan, fadeAfter, movePoint, moveOutput}
+use Rattle.player.specs.Moves.{freshControl, jumped, sought, rampAfter, moveGlide, fadeTarget, pointPlan, fadeAfter, movePoint, moveOutput}
 use Rattle.player.specs.Points.{limit, limitedWord, storeLevel, unit, phaseAt, offsetAt, coefficient, valueSum, levelValue, value, point}
 use Rattle.player.specs.Outputs.{push, pushTwo, outputSum, output, nextVoice, voiceAfter, outputs}
 use Rattle.player.specs.Refusals.{outputCountWrong, positionWrong, levelsWrong, fadeWrong, rateWrong, glideWrong, historyWrong, lateNumber, openNumber, orderInputNumber, orderNumber, seekNumber, playStateNumber, playNumber}
@@ -64,5 +64,5 @@ conclusion = demand3 book recording (pos 9 ∷ negsuc 8 ∷ pos 9 ∷ []) card s
 
 -- and the samples that it speaks of
 pub handed-out : handedOut book store 3 (openAnswer card .voice) calls ≡ pos 500 ∷ pos 1500 ∷ pos 1000 ∷ pos 0 ∷ pos 500 ∷ []
-unfolding floorDiv near wordAt tabulate sum total sumAround eqZ every refuse _otherwise_ sizesOf differencesAt levelTapsAt decimationTapsAt bookLength impulseWord impulse difference levelTaps decimationTaps powerOfTwo sizesInRange wordsInRange coefficientsInRange differencesRight phaseSum tapSum sumsInRange bookNumber halfLength levelLength levelStart storeLength samplesInRange topInRange firstLevel levelSum levelWord nextLevel levelOf levelsOf storeNumber ofBits rateInRange rateOf askedLevel advance freshControl jumped sought moveGlide fadeTarget pointPlan fadeAfter movePoint moveOutput limit limitedWord storeLevel unit phaseAt offsetAt coefficient valueSum levelValue value point push pushTwo outputSum output nextVoice voiceAfter outputs outputCountWrong positionWrong levelsWrong fadeWrong rateWrong glideWrong historyWrong lateNumber openNumber orderInputNumber orderNumber seekNumber playStateNumber playNumber zeroVoice freshVoice openAnswer ordered orderAnswer seekAnswer playAnswer callVoice callSamples handedOut
+unfolding floorDiv near wordAt tabulate sum total sumAround eqZ every refuse _otherwise_ sizesOf differencesAt levelTapsAt decimationTapsAt bookLength impulseWord impulse difference levelTaps decimationTaps powerOfTwo sizesInRange wordsInRange coefficientsInRange differencesRight phaseSum tapSum sumsInRange bookNumber halfLength levelLength levelStart storeLength samplesInRange topInRange firstLevel levelSum levelWord nextLevel levelOf levelsOf storeNumber ofBits rateInRange rateOf askedLevel advance freshControl jumped sought rampAfter moveGlide fadeTarget pointPlan fadeAfter movePoint moveOutput limit limitedWord storeLevel unit phaseAt offsetAt coefficient valueSum levelValue value point push pushTwo outputSum output nextVoice voiceAfter outputs outputCountWrong positionWrong levelsWrong fadeWrong rateWrong glideWrong historyWrong lateNumber openNumber orderInputNumber orderNumber seekNumber playStateNumber playNumber zeroVoice freshVoice openAnswer ordered orderAnswer seekAnswer playAnswer callVoice callSamples handedOut
 handed-out = refl

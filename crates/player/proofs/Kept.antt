@@ -22,7 +22,7 @@ use Rattle.player.specs.declared.Control.{Control}
 use Rattle.player.specs.declared.Order.{Order}
 use Rattle.player.specs.declared.Order.the-variants.{Jump, Glide}
 use Rattle.player.specs.Rate.{rateInRange, rateOf, advance}
-use Rattle.player.specs.Moves.{noGlide, noFade, freshControl, jumped, gliding, sought, glideRate, moveGlide, fadeTarget, pointPlan, fadeAfter, movePoint, moveOutput}
+use Rattle.player.specs.Moves.{rampAfter, noGlide, noFade, freshControl, jumped, gliding, sought, glideRate, moveGlide, fadeTarget, pointPlan, fadeAfter, movePoint, moveOutput}
 use Rattle.player.specs.Refusals.{glideCountWrong, positionWrong, openNumber, orderInputNumber}
 use Rattle.player.specs.Calls.{freshVoice, openAnswer, ordered}
 use Rattle.player.proofs.Rates.{rate-low, rate-high, asked-≤}
@@ -122,7 +122,7 @@ floor-multiple q {b} h = floor-unique (pos b *ℤ q) h (simp linear (omega arith
 
 -- a + ⌊(b − a) × j / (x + j)⌋ lies where a and b lie, the mean of which it is
 module _ (a b x j : ℕ) (h : 0 < x + j) where
-  mean-low : (lo : ℕ) → lo ≤ a → lo ≤ b → pos lo ≤ℤ (pos a +ℤ floorDiv ((pos b -ℤ pos a) *ℤ pos j) (x + j))
+  pub mean-low : (lo : ℕ) → lo ≤ a → lo ≤ b → pos lo ≤ℤ (pos a +ℤ floorDiv ((pos b -ℤ pos a) *ℤ pos j) (x + j))
   mean-low lo p q =
       let l : (pos (x + j) *ℤ (pos lo -ℤ pos a)) ≤ℤ ((pos b -ℤ pos a) *ℤ pos j) = simp linear (omega (arith, mul-le-mul-right x p, mul-le-mul-right j q)) in
       let m = floor-mono h l in
@@ -153,16 +153,12 @@ module _ (g : Ramp) (j : ℕ) (some : 0 < g .count) (within : j ≤ g .count) wh
       let m = rw e at (mean-high (g .start) (g .target) (g .count - j) j (omega arith) hi p q) in
       simp linear (omega (arith, simp linear at l, simp linear at m))
 
--- one output more of a glide
-next : Ramp → Ramp
-next g = let j = suc (g .done) in cond (eqb j (g .count)) noGlide (record { start = g .start; target = g .target; count = g .count; done = j })
-
 -- its last output leaves none, and any other has an output left
-next-sound : {T : ℕ} {g : Ramp} → RampSound T g → (next g .count ≡ 0 → ⊥) → RampSound T (next g)
-unfolding next
-next-sound {T} {g} r = go (ℕ-discrete (suc (g .done)) (g .count))
+ramp-sound : {T : ℕ} {g : Ramp} → RampSound T g → (rampAfter g (suc (g .done)) .count ≡ 0 → ⊥) → RampSound T (rampAfter g (suc (g .done)))
+unfolding rampAfter
+ramp-sound {T} {g} r = go (ℕ-discrete (suc (g .done)) (g .count))
   where
-    go : Dec (suc (g .done) ≡ g .count) → (next g .count ≡ 0 → ⊥) → RampSound T (next g)
+    go : Dec (suc (g .done) ≡ g .count) → (rampAfter g (suc (g .done)) .count ≡ 0 → ⊥) → RampSound T (rampAfter g (suc (g .done)))
     go (yes e) = rw (eq-eqb (suc (g .done)) (g .count) e) (λ n. absurd (n refl))
     go (no e) = rw (ne-eqb (suc (g .done)) (g .count) e) (λ n. record {
       start-low = r .start-low;
@@ -183,7 +179,7 @@ moveGlide-top c = top-either (eqb (c .glide .count) 0) c _ refl
 
 -- the new rate lies where both ends of the glide lie
 pub moveGlide-sound : {F : ℕ} {c : Control} → Sound F c → Sound F (moveGlide c)
-unfolding moveGlide next
+unfolding moveGlide
 moveGlide-sound {F} {c} s = go (ℕ-discrete (c .glide .count) 0)
   where
     go : Dec (c .glide .count ≡ 0) → Sound F (moveGlide c)
@@ -194,7 +190,7 @@ moveGlide-sound {F} {c} s = go (ℕ-discrete (c .glide .count) 0)
         let r = s .glide-sound z in
         let low = glide-low g j (omega arith) (r .done-high) (2 ^ 23) (r .start-low) (r .target-low) in
         let high = glide-high g j (omega arith) (r .done-high) (2 ^ (28 + c .top) - 1) (omega (arith, r .start-high)) (omega (arith, r .target-high)) in
-        rw (ne-eqb (g .count) 0 z) (moved-sound s (glideRate g j) low (omega (arith, r .start-high, high)) (next g) (next-sound r) (c .position) (s .position-high))
+        rw (ne-eqb (g .count) 0 z) (moved-sound s (glideRate g j) low (omega (arith, r .start-high, high)) (rampAfter g j) (ramp-sound r) (c .position) (s .position-high))
 
 -- ---- points
 

@@ -3,3 +3,7 @@ pub mod Sound
 pub mod Kept
 pub mod Values
 pub mod Histories
+pub mod Windows
+pub mod Mix
+pub mod Split
+pub mod Blocks

@@ -23,7 +23,7 @@ Within bound h = (k : ℕ) → k < 81 → natAbs (at h k) ≤ bound
 
 -- ---- what each condition leaves where it fails
 
-levels-right : (c : Control) → levelsWrong c ≡ false → (c .top ≤ 4) × (c .fade .from ≤ c .top) × (c .fade .to ≤ c .top)
+pub levels-right : (c : Control) → levelsWrong c ≡ false → (c .top ≤ 4) × (c .fade .from ≤ c .top) × (c .fade .to ≤ c .top)
 unfolding levelsWrong
 levels-right c e = (ltb-false _ _ (search (||-left, ||-right)), ltb-false _ _ (search (||-left, ||-right)), ltb-false _ _ (search (||-left, ||-right)))
 

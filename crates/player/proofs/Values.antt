@@ -196,7 +196,7 @@ module _ (b : List ℤ) (a : Accepted b) (store : List ℤ) (S : ℕ) where
   value-bound l P = levelValue-bound b a (storeLevel store S l) l P
 
   -- of the levels that there are
-  value-small : (l P : ℕ) → l ≤ 4 → natAbs (value b store S l P) ≤ 2 ^ 29
+  pub value-small : (l P : ℕ) → l ≤ 4 → natAbs (value b store S l P) ≤ 2 ^ 29
   value-small l P h = le-trans (value-bound l P) (pow-mono {j = 29} (omega arith))
 
   -- a point is a value or a mean of two

@@ -5,3 +5,4 @@ pub mod Points
 pub mod Outputs
 pub mod Refusals
 pub mod Calls
+pub mod Inner

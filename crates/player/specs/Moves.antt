@@ -49,18 +49,16 @@ sought c P = record { top = c .top; fade = c .fade; rate = c .rate; glide = c .g
 unfoldable pub glideRate : Ramp → ℕ → ℕ
 glideRate g j = natAbs (pos (g .start) +ℤ floorDiv ((pos (g .target) -ℤ pos (g .start)) *ℤ pos j) (g .count))
 
--- before an output's points: one output more of the glide, whose last sets the four to 0
+-- a glide after its output j: the last sets the four to 0
+unfoldable pub rampAfter : Ramp → ℕ → Ramp
+rampAfter g j = cond (eqb j (g .count)) noGlide (record { start = g .start; target = g .target; count = g .count; done = j })
+
+-- before an output's points: one output more of the glide
 unfoldable pub moveGlide : Control → Control
 moveGlide c =
     let g = c .glide in
     let j = suc (g .done) in
-    cond (eqb (g .count) 0) c (record {
-      top = c .top;
-      fade = c .fade;
-      rate = glideRate g j;
-      glide = cond (eqb j (g .count)) noGlide (record { start = g .start; target = g .target; count = g .count; done = j });
-      position = c .position;
-    })
+    cond (eqb (g .count) 0) c (record { top = c .top; fade = c .fade; rate = glideRate g j; glide = rampAfter g j; position = c .position })
 
 -- ---- the fade
 

@@ -1,4 +1,11 @@
-// The driving-tone player: the records that its calls take and hand back.
+// The driving-tone player. A voice goes from state to state by `Voice::open`, `order`, `seek` and `play`.
+
+mod calls; // open, order, seek and play
+mod moves; // what moves a voice: glide, fade, position
+mod outputs; // histories, outputs and blocks of them
+mod points; // level values and points
+mod rate; // rates as f32
+mod refusals; // the numbers of the calls
 
 // The opening card: a rate, and the top level T.
 pub struct Card {
@@ -50,7 +57,7 @@ pub struct Voice {
     pub history: [i32; 81],
 }
 
-// What open, order and seek hand back: a refusal number or 0, and the voice.
+// What a call hands back: a refusal number or 0, and the voice.
 pub struct Answer {
     pub number: u32,
     pub voice: Voice,

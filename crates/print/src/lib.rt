@@ -14,6 +14,21 @@ pub fn next_integer(x: i32) {
     integer(x);
 }
 
+// A blank, and then the sample.
+pub fn next_sample(x: i16) {
+    next_integer(x as i32);
+}
+
+// A blank before each of a slice of samples, and the end of the line.
+pub fn samples(block: &[i16]) {
+    let mut i = 0;
+    while i < block.len() {
+        next_sample(block[i]);
+        i += 1;
+    }
+    end_line();
+}
+
 // A refusal number.
 pub fn number(n: u32) {
     io::print_decimal(1, n as u64);

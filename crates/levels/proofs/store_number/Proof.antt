@@ -4,7 +4,7 @@ use mathlib.Core.Path.{_≡_, sym, _∙_}
 use Rattle.arith.proofs.Tests.{tests}
 use Rattle.book.specs.Number.{refuse, _otherwise_}
 use Rattle.book.specs.Check.{bookNumber}
-use Rattle.book.proofs.Numbers.{otherwise-first}
+use Rattle.book.proofs.Numbers.{number-stays}
 use Rattle.levels.specs.Sizes.{samplesInRange, topInRange}
 use Rattle.levels.specs.Build.{storeNumber}
 use Rattle.levels.proofs.store_number.Statement.{statement}
@@ -19,9 +19,7 @@ check-requires c κs = search needs
 
 returns : tie.Need-returns
 unfolding storeNumber
-returns c =
-    let e = c .before .check .ensures in
-    e ∙ sym (otherwise-first _ _ (λ z. c .if1 .taken (e ∙ z)))
+returns c = number-stays _ (c .before .check .ensures) (c .if1 .taken)
 
 returns-2 : tie.Need-returns-2
 unfolding storeNumber samplesInRange topInRange refuse _otherwise_
