@@ -23,7 +23,7 @@ use Rattle.player.specs.Moves.{freshControl, jumped, gliding, sought, glideRate
 use Rattle.player.specs.Points.{limit, limitedWord, storeLevel, unit, phaseAt, offsetAt, coefficient, valueSum, levelValue, value, point}
 use Rattle.player.specs.Outputs.{push, pushTwo, outputSum, output, nextVoice, voiceAfter, outputs}
 use Rattle.player.specs.Refusals.{glideCountWrong, outputCountWrong, positionWrong, levelsWrong, fadeWrong, rateWrong, glideWrong, historyWrong, lateNumber, openNumber, orderInputNumber, orderNumber, seekNumber, playStateNumber, playNumber}
-use Rattle.player.specs.Calls.{zeroVoice, freshVoice, openAnswer, ordered, orderAnswer, seekAnswer, Played, playAnswer}
+use Rattle.player.specs.Calls.{zeroVoice, freshVoice, openAnswer, ordered, orderAnswer, seekAnswer, Played, pointBound, playAnswer}
 
 -- book K with another F, h[0] and g[0]
 abbrev pub bookWith : ℕ → ℕ → ℕ → List ℤ
@@ -148,3 +148,19 @@ starredCases = caseA ∷ caseB ∷ caseC ∷ caseD ∷ caseE ∷ caseF₁ ∷ ca
 pub starred : map (λ c. c .found) starredCases ≡ map (λ c. c .stated) starredCases
 unfolding starredCases caseA caseB caseC caseD caseE caseF₁ caseF₂ caseG₁ caseG₂ caseH caseI caseJ floorDiv near wordAt tabulate sum total sumAround eqZ every refuse _otherwise_ sizesOf differencesAt levelTapsAt decimationTapsAt bookLength impulseWord impulse difference levelTaps decimationTaps powerOfTwo sizesInRange wordsInRange coefficientsInRange differencesRight phaseSum tapSum sumsInRange bookNumber halfLength levelLength levelStart storeLength samplesInRange topInRange firstLevel levelSum levelWord nextLevel levelOf levelsOf storeNumber buildAnswer ofBits rateInRange rateOf askedLevel advance freshControl jumped gliding sought glideRate rampAfter moveGlide fadeTarget pointPlan fadeAfter movePoint moveOutput limit limitedWord storeLevel unit phaseAt offsetAt coefficient valueSum levelValue value point push pushTwo outputSum output nextVoice voiceAfter outputs glideCountWrong outputCountWrong positionWrong levelsWrong fadeWrong rateWrong glideWrong historyWrong lateNumber openNumber orderInputNumber orderNumber seekNumber playStateNumber playNumber zeroVoice freshVoice openAnswer ordered orderAnswer seekAnswer playAnswer
 starred = refl
+
+-- ---- a play of more outputs than a program here can lend: 1048577 is refused 11, after 17; 1048576 is accepted
+
+unfoldable pub longPlays : Case
+longPlays =
+    let v = opened rate1 0 .voice in
+    let store = storeFor bookK (pos 0 ∷ pos 1000 ∷ pos 2000 ∷ []) 0 in
+    let number : List ℤ → ℕ → ℤ = λ history n. pos (playNumber bookK store 3 (v .control) pointBound history n) in
+    record {
+      found = number (v .history) 1048577 ∷ number (pos 536870913 ∷ v .history) 1048577 ∷ number (v .history) 1048576 ∷ [];
+      stated = pos 11 ∷ pos 17 ∷ pos 0 ∷ [];
+    }
+
+pub long-plays : longPlays .found ≡ longPlays .stated
+unfolding longPlays floorDiv near wordAt tabulate sum total sumAround eqZ every refuse _otherwise_ sizesOf differencesAt levelTapsAt decimationTapsAt bookLength impulseWord impulse difference levelTaps decimationTaps powerOfTwo sizesInRange wordsInRange coefficientsInRange differencesRight phaseSum tapSum sumsInRange bookNumber halfLength levelLength levelStart storeLength samplesInRange topInRange firstLevel levelSum levelWord nextLevel levelOf levelsOf storeNumber buildAnswer ofBits rateInRange rateOf askedLevel advance freshControl jumped gliding sought glideRate rampAfter moveGlide fadeTarget pointPlan fadeAfter movePoint moveOutput limit limitedWord storeLevel unit phaseAt offsetAt coefficient valueSum levelValue value point push pushTwo outputSum output nextVoice voiceAfter outputs glideCountWrong outputCountWrong positionWrong levelsWrong fadeWrong rateWrong glideWrong historyWrong lateNumber openNumber orderInputNumber orderNumber seekNumber playStateNumber playNumber zeroVoice freshVoice openAnswer ordered orderAnswer seekAnswer playAnswer
+long-plays = refl
