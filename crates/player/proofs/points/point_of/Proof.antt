@@ -13,16 +13,16 @@ use Rattle.player.proofs.Values.{value-small}
 use Rattle.player.proofs.points.point_of.Statement.{statement}
 use Rattle.player.proofs.points.point_of.Tie as tie
 
--- a value at the plan's position
+-- the value of a level at a position
 module _ (s : tie.Start) where
-  abbrev valueOf : ℕ → ℤ
-  valueOf l = value (s .args .book .now) (s .args .store .now) (s .args .samples) l (s .args .p .position)
+  abbrev valueOf : ℕ → ℕ → ℤ
+  valueOf l x = value (s .args .book .now) (s .args .store .now) (s .args .samples) l x
 
   sound : Accepted (s .args .book .now)
   sound = accepted (s .args .book .now) (s .pre .0 .0)
 
-  small : (l : ℕ) → l ≤ 4 → natAbs (valueOf l) ≤ 2 ^ 29
-  small l h = value-small (s .args .book .now) sound (s .args .store .now) (s .args .samples) l (s .args .p .position) h
+  small : (l : ℕ) → l ≤ 4 → (x : ℕ) → natAbs (valueOf l x) ≤ 2 ^ 29
+  small l h x = value-small (s .args .book .now) sound (s .args .store .now) (s .args .samples) l x h
 
 old-fits : (c : tie.After-store-value) → SFits w32 (c .store-value .result)
 old-fits c = record { sfits = c .store-value .ok }
@@ -49,8 +49,8 @@ faded-requires c κs =
     let s = o .before in
     let f = sizes-bounded (s .args .book .now) (sound s) in
     simp (reads, old-fits o, new-fits c) (
-      rw (o .store-value .ensures) (small s (s .args .p .old) (omega arith)),
-      rw (c .store-value2 .ensures) (small s (s .args .p .new) (omega arith)),
+      rw (o .store-value .ensures) (small s (s .args .p .old) (omega arith) _),
+      rw (c .store-value2 .ensures) (small s (s .args .p .new) (omega arith) _),
       omega arith,
       omega (arith, f .fade-low),
       omega (arith, f .fade-high),
@@ -62,8 +62,8 @@ returns-2 c =
     let n = c .before in
     let o = n .before .before .before in
     let mean = simp (reads, old-fits o, new-fits n) at (c .faded .ensures) in
-    simp (reads, result-fits c, ne-eqb _ _ (n .before .if1 .left))
-    (cc (mean, o .store-value .ensures, n .store-value2 .ensures, o .before .pre .0 .3))
+    let known = rw (o .store-value .ensures) at (rw (n .store-value2 .ensures) at (rw (o .before .pre .0 .3) at mean)) in
+    simp (reads, result-fits c, ne-eqb _ _ (n .before .if1 .left)) known
 
 pub point-of-spec : {M : Type 1} → statement M
 point-of-spec =
