@@ -1,0 +1,267 @@
+/*
+ * tone.h: the driving-tone player, for C99 and C++.
+ *
+ * A recorded 16-bit hum is played faster or slower, from octave levels that are
+ * built of it once. The calls are in libtone.a, for x86-64; link with -ltone. The
+ * archive needs the C library and nothing else.
+ *
+ *   const int32_t book[] = { .. };                  a filter book
+ *   tone_build(book, .., samples, .., top, store, ..);      once, in the studio
+ *   int32_t voice[TONE_VOICE_WORDS];
+ *   tone_open(1.0f, top, voice, TONE_VOICE_WORDS);
+ *   tone_glide(voice, TONE_VOICE_WORDS, 2.0f, 48000);
+ *   tone_play(voice, .., book, .., store, .., sample_count, out, out_count);
+ *
+ *
+ * THE PROMISE OF EVERY CALL
+ *
+ * For every input that keeps the rules on pointers below, a call ends, and its
+ * number and every word that it leaves are fixed by its arguments alone. Words,
+ * counts, positions and rates may be anything, NaN among the rates. This is
+ * proved: each call equals its definition, which is named beside it. The letters
+ * N, M, A, B, F, S, T, R, P, i, c and j are those of the player's rules (document
+ * 01).
+ *
+ * A call returns TONE_ACCEPTED, which is 0, or the number of a refusal. Each
+ * call lists its numbers in their order: it returns the first whose condition
+ * holds.
+ *
+ * A refused call writes nothing: voice, store and output are as they came. The
+ * one exception is tone_open: where it returns 8 or 10 the voice is the zero
+ * record, 95 words of 0.
+ *
+ * No call allocates, prints, waits, keeps a pointer or has a state of its own.
+ * Calls may run at the same time where none writes what another reads or
+ * writes: many voices can play from one book and one store.
+ *
+ *
+ * POINTERS
+ *
+ * An array is given as a pointer to its first element and its count of elements.
+ *  - The pointer is not null and is aligned for its type, and the array is valid
+ *    for the whole count. This holds for a count of 0 as well: pass a pointer to
+ *    some element.
+ *  - An array that is not const overlaps no other array of the call.
+ *
+ *
+ * A VOICE
+ *
+ * A voice is TONE_VOICE_WORDS words and has no other state. It may be copied,
+ * stored, sent and compared as words; a copy plays on as its original would. A
+ * field of 32 bits is one word, a field of 64 bits two, the low one first. All
+ * fields are unsigned, the bits of a word being read as such, but for the points
+ * of history, which are signed.
+ *
+ *   words    field
+ *   0        T, the top level
+ *   1        the old level of a fade; the current level where no fade runs
+ *   2        the new level of a fade; the current level where no fade runs
+ *   3        i, the points that the fade has made; 0 where no fade runs
+ *   4, 5     R, the rate times 2^27
+ *   6, 7     R0, the R at which the glide was ordered; 0 where no glide runs
+ *   8, 9     R1, the R that the glide leads to; 0 where no glide runs
+ *   10       c, the glide's count of outputs; 0 where no glide runs
+ *   11       j, the outputs that the glide has made; 0 where no glide runs
+ *   12, 13   P, the position, in 2^-28 of a sample of level 0
+ *   14..94   the 81 newest points, newest first
+ *
+ * Every pattern of words is some voice: each call that is lent one accepts it
+ * or refuses it by number.
+ */
+
+#ifndef TONE_H
+#define TONE_H
+
+#include <stddef.h>
+#include <stdint.h>
+
+#ifdef __cplusplus
+extern "C" {
+#endif
+
+/* The numbers that calls return. */
+enum tone_number {
+    TONE_ACCEPTED = 0,
+
+    /* of the book */
+    TONE_BOOK_SHORT = 1,               /* the book is shorter than 5 words */
+    TONE_BOOK_SIZE = 2,                /* a size is outside its range */
+    TONE_BOOK_LENGTH = 3,              /* the book's length is not the one that its sizes give */
+    TONE_BOOK_COEFFICIENT = 4,         /* an impulse or tap is outside -32768..32767 */
+    TONE_BOOK_FIRST_IMPULSE = 5,       /* the first impulse, G_0[0], is not 0 */
+    TONE_BOOK_DIFFERENCE = 6,          /* a difference is wrong */
+    TONE_BOOK_SUM = 7,                 /* a sum of absolute values is too large */
+
+    /* of the other arguments */
+    TONE_SAMPLES_OR_TOP = 8,           /* S is outside 1..1048576, or T above 4 */
+    TONE_STORE_SHORT = 9,              /* the store is shorter than its levels */
+    TONE_RATE = 10,                    /* the rate is not from 1/16 up to below 2^(T+1) */
+    TONE_COUNT = 11,                   /* a glide's count is outside 1..65536, a play's 0..1048576 */
+    TONE_POSITION = 12,                /* the position is beyond 2^60 */
+
+    /* of the voice */
+    TONE_VOICE_LEVEL = 13,             /* T is above 4, or a level above T */
+    TONE_VOICE_FADE = 14,              /* i is 0 with two levels unequal, above 0 with them equal, or at least F */
+    TONE_VOICE_RATE = 15,              /* R, R0 or R1 is outside 2^23..2^(28+T)-1, c above 65536, or j not below c;
+                                          where c is 0 only R is looked at */
+    TONE_VOICE_POSITION = 16,          /* P is beyond 2^60 */
+    TONE_VOICE_HISTORY = 17,           /* a point is beyond -2^29..2^29 */
+    TONE_VOICE_LENGTH = 28             /* the voice's count of words is not TONE_VOICE_WORDS */
+};
+
+#define TONE_VOICE_WORDS 95            /* words of a voice */
+#define TONE_MOST_BOOK_WORDS 6231      /* words of the longest accepted book */
+#define TONE_MOST_SAMPLES 1048576      /* the most samples of a recording, S */
+#define TONE_MOST_TOP 4                /* the highest top level, T */
+#define TONE_MOST_STORE_WORDS 2031616  /* words of the levels for the most samples and the highest top level */
+#define TONE_MOST_OUTPUTS 1048576      /* the most outputs of one play */
+#define TONE_MOST_GLIDE 65536          /* the most outputs of one glide, c */
+#define TONE_MOST_POSITION ((uint64_t)1 << 60)  /* the highest position, P */
+#define TONE_POSITION_BITS 28          /* sample n of level 0 lies at position n << TONE_POSITION_BITS */
+
+/*
+ * Where the fields of a voice begin.
+ */
+enum tone_voice_word {
+    TONE_WORD_TOP = 0,
+    TONE_WORD_OLD_LEVEL = 1,
+    TONE_WORD_NEW_LEVEL = 2,
+    TONE_WORD_FADE_STEP = 3,
+    TONE_WORD_RATE = 4,
+    TONE_WORD_GLIDE_START = 6,
+    TONE_WORD_GLIDE_TARGET = 8,
+    TONE_WORD_GLIDE_COUNT = 10,
+    TONE_WORD_GLIDE_DONE = 11,
+    TONE_WORD_POSITION = 12,
+    TONE_WORD_HISTORY = 14
+};
+
+/*
+ * Tests a filter book. A book is its sizes N, M, A, B, F; M x N impulses and
+ * M x N differences, phase q tap k at q x N + k; A+1 level taps h and B+1
+ * decimation taps g, centre first.
+ *
+ * Numbers: 1 2 3 4 5 6 7.
+ * Writes:  nothing.
+ *
+ * The number is bookNumber of the book's words (crates/book/specs/Check.antt).
+ */
+uint32_t tone_check(const int32_t *book, size_t book_words);
+
+/*
+ * The words of a store for `samples` samples and the levels 0..`top`: S and its
+ * halves, each rounded up. 0 where S is outside 1..TONE_MOST_SAMPLES or T above
+ * TONE_MOST_TOP.
+ *
+ * The answer is storeWords of both (crates/tone/specs/Calls.antt).
+ */
+size_t tone_store_words(size_t samples, uint32_t top);
+
+/*
+ * Builds the octave levels 0..`top` of a recording into the store, one after
+ * another. S is `sample_count`.
+ *
+ * Numbers: 1 2 3 4 5 6 7, then 8 of S and T, then 9.
+ * Writes:  the first tone_store_words(sample_count, top) words of the store. The
+ *          words after them are left.
+ *
+ * Number and store are those of buildAnswer (crates/levels/specs/Build.antt).
+ * Words of level j lie within -2^(23+j)..2^(23+j).
+ */
+uint32_t tone_build(const int32_t *book, size_t book_words,
+                    const int16_t *samples, size_t sample_count, uint32_t top,
+                    int32_t *store, size_t store_words);
+
+/*
+ * Opens a voice at a rate, for stores of top level `top`: at position 0, on the
+ * level that the rate asks for, with no glide, no fade and a silent history. A
+ * rate of 1 is the recorded speed. R is rate x 2^27, with nothing lost.
+ *
+ * Numbers: 28, then 8 of T, then 10.
+ * Writes:  the voice: the fresh one, or after 8 and 10 the zero record. Every
+ *          later call refuses the zero record.
+ *
+ * Number and voice are those of openCrossing (crates/tone/specs/Calls.antt), over
+ * openAnswer (crates/player/specs/Calls.antt).
+ */
+uint32_t tone_open(float rate, uint32_t top, int32_t *voice, size_t voice_words);
+
+/*
+ * Orders a jump to a rate: sets R, and ends a glide that runs.
+ *
+ * Numbers: 28, then 13 15 16 17 of the voice, then 10.
+ * Writes:  the voice. Words other than 4 to 11 keep their values.
+ *
+ * Number and voice are those of crossing (crates/tone/specs/Calls.antt), over
+ * orderAnswer (crates/player/specs/Calls.antt).
+ */
+uint32_t tone_jump(int32_t *voice, size_t voice_words, float rate);
+
+/*
+ * Orders a glide over `count` outputs from the present R to a rate. Output j of
+ * it has R0 + floor((R1 - R0) x j / c); the last one has R1. R stays until the
+ * next output.
+ *
+ * Numbers: 28, then 13 15 16 17 of the voice, then 10, then 11.
+ * Writes:  the voice. Words other than 6 to 11 keep their values.
+ *
+ * Number and voice are those of crossing (crates/tone/specs/Calls.antt), over
+ * orderAnswer (crates/player/specs/Calls.antt).
+ */
+uint32_t tone_glide(int32_t *voice, size_t voice_words, float rate, uint32_t count);
+
+/*
+ * Sets the position, in 2^-28 of a sample of level 0, and nothing else.
+ *
+ * Numbers: 28, then 13 15 16 17 of the voice, then 12.
+ * Writes:  the voice. Words other than 12 and 13 keep their values.
+ *
+ * Number and voice are those of crossing (crates/tone/specs/Calls.antt), over
+ * seekAnswer (crates/player/specs/Calls.antt).
+ */
+uint32_t tone_seek(int32_t *voice, size_t voice_words, uint64_t position);
+
+/*
+ * Fills the whole output with the voice's next samples. `samples` is the S that
+ * the store was built with; its T is the voice's. A count of 0 is accepted and
+ * leaves the voice as it is. The store may hold anything: a word of level j
+ * beyond -2^(23+j)..2^(23+j) is read as that limit.
+ *
+ * Numbers: 28, then 1 2 3 4 5 6 7 of the book, then 8 of `samples` and the
+ *          voice's T, then 9 with that T, then 13 14 15 16 17 of the voice,
+ *          then 11.
+ * Writes:  every output word, and the voice.
+ *
+ * Number, voice and output are those of playCrossing
+ * (crates/tone/specs/Calls.antt), over playAnswer
+ * (crates/player/specs/Calls.antt).
+ *
+ * THE PROMISE OF A WHOLE DRIVE (theorem demand3, crates/drive/proofs/Theorem.antt).
+ *
+ * Take one accepted book, one recording and the store that tone_build made of
+ * both for top level T, and let nobody write to book and store meanwhile. Take
+ * any list of tone_jump, tone_glide, tone_seek and tone_play calls, refused ones
+ * among them, that starts from the voice of an accepted tone_open for this T and
+ * gives each call the voice that the last one left, every play being lent this
+ * book and store and told this S.
+ *  - Each sample that any play of the list wrote lies within
+ *    (126 + 4 x 2^T) / 256 of one 16-bit step of the exact sum, limited to 16
+ *    bits: 130, 134, 142, 158 or 190 of 256 for T = 0, 1, 2, 3 or 4. The exact
+ *    sum has unrounded levels, coefficients, fades and decimation, at the
+ *    positions and rates that the opening and the calls' arguments fix.
+ *  - Two lists from the same opening write the same samples in the same order,
+ *    and end with the same voice, whenever they have the same accepted calls
+ *    other than play, in the same order, with as many samples before each of
+ *    these and as many in all. So it does not matter how a drive is cut into
+ *    plays.
+ */
+uint32_t tone_play(int32_t *voice, size_t voice_words,
+                   const int32_t *book, size_t book_words,
+                   const int32_t *store, size_t store_words, size_t samples,
+                   int16_t *out, size_t out_count);
+
+#ifdef __cplusplus
+}
+#endif
+
+#endif

@@ -1,0 +1,205 @@
+//! Small drives with the renderer's answers, as lines of text from which another
+//! program can be made.
+
+use crate::inputs::list_of_calls;
+use crate::record::{words_of, Words};
+use renderer::exact::{setting_store, Call, Setting};
+use renderer::random::{bad_rate, book_of_sizes, random_rate, random_recording, Rng};
+use renderer::{open, order, play, seek, Card, Lent, Order, Voice};
+use std::fmt::{self, Display};
+use tone::VOICE_WORDS;
+
+/// What each word of an output slice holds before its play.
+pub const BEFORE: i16 = 77;
+
+/// Most calls of a small drive.
+pub const MOST_CALLS: usize = 12;
+/// Most outputs of a small drive, over all its plays.
+pub const MOST_SMALL_OUTPUTS: usize = 200;
+
+/// A call and the renderer's answer.
+#[derive(Clone, Debug)]
+pub struct Answered {
+    /// The call.
+    pub call: Call,
+    /// Its number.
+    pub number: u32,
+    /// Of a play, the output slice afterwards.
+    pub out: Vec<i16>,
+}
+
+/// A drive with the renderer's answers.
+#[derive(Clone, Debug)]
+pub struct SmallDrive {
+    /// The seed that it came from.
+    pub seed: u64,
+    /// Book, recording and T.
+    pub setting: Setting,
+    /// The opening's rate.
+    pub rate: f32,
+    /// The opening's number.
+    pub opened: u32,
+    /// The calls, each from the voice that the last one returned.
+    pub calls: Vec<Answered>,
+    /// The voice at the end.
+    pub voice: Words,
+}
+
+fn small_setting(rng: &mut Rng) -> Setting {
+    let sizes = [
+        rng.pick(&[2, 4]),
+        rng.pick(&[1, 2, 4]),
+        rng.range(0, 3) as i32,
+        rng.range(0, 3) as i32,
+        rng.range(1, 8) as i32,
+    ];
+    let book = book_of_sizes(rng, sizes);
+    let count = 1 + rng.below(64) as usize;
+    Setting {
+        book,
+        samples: random_recording(rng, count),
+        top: rng.below(4) as u32,
+    }
+}
+
+/// Calls of a small drive: the plays share out the outputs.
+fn small_calls(rng: &mut Rng, setting: &Setting, rate: f32) -> Vec<Call> {
+    let mut left = MOST_SMALL_OUTPUTS;
+    let mut calls = Vec::new();
+    let list = list_of_calls(rng, setting, rate, MOST_CALLS, 40);
+    for call in list.into_iter().take(MOST_CALLS) {
+        match call {
+            Call::Play(count) => {
+                let count = count.min(left);
+                left -= count;
+                calls.push(Call::Play(count));
+            }
+            other => calls.push(other),
+        }
+    }
+    calls
+}
+
+fn answer(voice: &mut Voice, lent: &Lent, call: Call) -> Answered {
+    let mut out = Vec::new();
+    let (number, next) = match call {
+        Call::Jump(rate) => order(voice, Order::Jump(rate)),
+        Call::Glide(rate, count) => order(voice, Order::Glide(rate, count)),
+        Call::Seek(position) => seek(voice, position),
+        Call::Play(count) => {
+            out = vec![BEFORE; count];
+            play(voice, lent, &mut out)
+        }
+    };
+    *voice = next;
+    Answered { call, number, out }
+}
+
+/// The small drive of a seed: N and M at most 4, A and B at most 3, F at most 8,
+/// T at most 3, at most 64 samples, [`MOST_CALLS`] calls and
+/// [`MOST_SMALL_OUTPUTS`] outputs. Once in eight the opening is refused.
+pub fn small_drive(seed: u64) -> SmallDrive {
+    let mut rng = Rng::new(seed);
+    let setting = small_setting(&mut rng);
+    let rate = match rng.below(8) {
+        0 => bad_rate(&mut rng, setting.top),
+        _ => random_rate(&mut rng, setting.top),
+    };
+    let list = small_calls(&mut rng, &setting, rate);
+    let store = setting_store(&setting).expect("the book is accepted");
+    let lent = Lent {
+        book: &setting.book,
+        store: &store,
+        samples: setting.samples.len() as u64,
+    };
+    let (opened, mut voice) = open(Card {
+        rate,
+        top: setting.top,
+    });
+    let calls = list
+        .into_iter()
+        .map(|call| answer(&mut voice, &lent, call))
+        .collect();
+    SmallDrive {
+        seed,
+        rate,
+        opened,
+        calls,
+        voice: words_of(&voice, &[0; VOICE_WORDS]),
+        setting,
+    }
+}
+
+fn line<T: Display>(f: &mut fmt::Formatter<'_>, name: &str, words: &[T]) -> fmt::Result {
+    write!(f, "{name}")?;
+    for word in words {
+        write!(f, " {word}")?;
+    }
+    writeln!(f)
+}
+
+impl Display for Answered {
+    fn fmt(&self, f: &mut fmt::Formatter<'_>) -> fmt::Result {
+        match self.call {
+            Call::Jump(rate) => writeln!(f, "jump {:08x}", rate.to_bits())?,
+            Call::Glide(rate, count) => writeln!(f, "glide {:08x} {count}", rate.to_bits())?,
+            Call::Seek(position) => writeln!(f, "seek {position}")?,
+            Call::Play(count) => writeln!(f, "play {count}")?,
+        }
+        writeln!(f, "number {}", self.number)?;
+        match self.call {
+            Call::Play(_) => line(f, "out", &self.out),
+            _ => Ok(()),
+        }
+    }
+}
+
+/// Lines "drive", "book", "samples", "top", "open", "jump", "glide", "seek" and
+/// "play", each call followed by "number" and a play's number by "out"; "voice"
+/// is the last. Rates are f32 bits in hexadecimal.
+impl Display for SmallDrive {
+    fn fmt(&self, f: &mut fmt::Formatter<'_>) -> fmt::Result {
+        writeln!(f, "drive {}", self.seed)?;
+        line(f, "book", &self.setting.book)?;
+        line(f, "samples", &self.setting.samples)?;
+        writeln!(f, "top {}", self.setting.top)?;
+        writeln!(f, "open {:08x}", self.rate.to_bits())?;
+        writeln!(f, "number {}", self.opened)?;
+        for call in &self.calls {
+            write!(f, "{call}")?;
+        }
+        line(f, "voice", &self.voice)
+    }
+}
+
+#[cfg(test)]
+mod tests {
+    use super::*;
+
+    #[test]
+    fn small_drives_are_small() {
+        for seed in 0..300 {
+            let drive = small_drive(seed);
+            let book = &drive.setting.book;
+            assert_eq!(renderer::check_book(book), 0);
+            assert!(book[0] <= 4 && book[1] <= 4 && book[4] <= 8);
+            assert!(book[2] <= 3 && book[3] <= 3 && drive.setting.top <= 3);
+            assert!(drive.setting.samples.len() <= 64);
+            assert!(drive.calls.len() <= MOST_CALLS);
+            let outputs: usize = drive.calls.iter().map(|call| call.out.len()).sum();
+            assert!(outputs <= MOST_SMALL_OUTPUTS);
+        }
+    }
+
+    #[test]
+    fn lines_in_order() {
+        let text = small_drive(1).to_string();
+        let names: Vec<&str> = text
+            .lines()
+            .map(|line| line.split(' ').next().unwrap_or(""))
+            .collect();
+        let head = ["drive", "book", "samples", "top", "open", "number"];
+        assert_eq!(names[..6], head);
+        assert_eq!(names.last(), Some(&"voice"));
+    }
+}

@@ -1,0 +1,224 @@
+//! The command line.
+
+use std::ffi::OsString;
+use std::path::PathBuf;
+
+use crate::drive;
+use crate::failure::Failure;
+
+/// What `tone --help` prints.
+pub const HELP: &str = "\
+tone: the driving-tone player, for studios and fitters
+
+    tone check BOOK
+        Tests a filter book. Prints \"accepted\", or why it is refused.
+
+    tone build BOOK RECORDING.wav T STORE
+        Builds the octave levels 0..T of a recording, and prints its count of
+        samples S, which play is told.
+
+    tone play BOOK STORE S T RATE DRIVE OUT.wav
+        Opens a voice at RATE and T, makes the calls of DRIVE in their order and
+        writes all samples that they play. S and T are those that STORE was
+        built with.
+        --sample-rate HZ   written to OUT.wav, which plays at the recorded
+                           pitch for rate 1 if the recording had the same;
+                           48000 if not given
+
+    tone --help, tone --version
+
+T is 0..4, S is 1..1048576, and RATE is a decimal from 1/16 up to below 2^(T+1);
+it is rounded to the nearest 32-bit float, which is the rate that is played.
+
+BOOK           a text of decimal words, blanks or line ends between them: N, M,
+               A, B, F, the impulses, the differences, the level taps and the
+               decimation taps. Lines that begin with # are comments.
+RECORDING.wav  a 16-bit mono PCM WAV file.
+STORE          32-bit words in two's complement, lowest byte first: the levels
+               one after another. Words after the levels are not looked at.
+DRIVE          a text with a call on each line:
+                   jump RATE            to a rate at once
+                   glide RATE OUTPUTS   to a rate over 1..65536 outputs
+                   seek POSITION        in 2^-28 of a sample, up to 2^60
+                   play OUTPUTS         up to 1048576 on a line
+               Blank lines, and lines that begin with #, are passed over.
+OUT.wav        a 16-bit mono PCM WAV file.
+
+A refused call ends the command: its number and meaning, and the line of DRIVE,
+are written to standard error. STORE and OUT.wav are written whole or not at all.
+
+Exit status: 0 done, 1 refused, 2 arguments or files that cannot be used,
+130 interrupted.
+";
+
+/// The sample rate of OUT.wav where none is given.
+const SAMPLE_RATE: u32 = 48000;
+
+/// What is asked for.
+#[derive(Debug)]
+pub enum Request {
+    /// `tone --help`
+    Help,
+    /// `tone --version`
+    Version,
+    /// `tone check`
+    Check(CheckRequest),
+    /// `tone build`
+    Build(BuildRequest),
+    /// `tone play`
+    Play(PlayRequest),
+}
+
+/// `tone check BOOK`
+#[derive(Debug)]
+pub struct CheckRequest {
+    /// BOOK
+    pub book: PathBuf,
+}
+
+/// `tone build BOOK RECORDING.wav T STORE`
+#[derive(Debug)]
+pub struct BuildRequest {
+    /// BOOK
+    pub book: PathBuf,
+    /// RECORDING.wav
+    pub recording: PathBuf,
+    /// T
+    pub top: u32,
+    /// STORE
+    pub store: PathBuf,
+}
+
+/// `tone play BOOK STORE S T RATE DRIVE OUT.wav`
+#[derive(Debug)]
+pub struct PlayRequest {
+    /// BOOK
+    pub book: PathBuf,
+    /// STORE
+    pub store: PathBuf,
+    /// S
+    pub samples: usize,
+    /// T
+    pub top: u32,
+    /// RATE
+    pub rate: f32,
+    /// DRIVE
+    pub drive: PathBuf,
+    /// OUT.wav
+    pub out: PathBuf,
+    /// HZ
+    pub sample_rate: u32,
+}
+
+/// The arguments as they were given, options apart.
+#[derive(Default)]
+struct Given {
+    operands: Vec<OsString>,
+    help: bool,
+    version: bool,
+    sample_rate: Option<u32>,
+}
+
+/// Reads the arguments that follow the command's name.
+pub fn read(arguments: impl Iterator<Item = OsString>) -> Result<Request, Failure> {
+    let given = sorted(arguments)?;
+    if given.help {
+        return Ok(Request::Help);
+    }
+    if given.version {
+        return Ok(Request::Version);
+    }
+    let Some((command, operands)) = given.operands.split_first() else {
+        return Err(misused("no command"));
+    };
+    if given.sample_rate.is_some() && command != "play" {
+        return Err(misused("--sample-rate goes with tone play"));
+    }
+    match (command.to_str(), operands) {
+        (Some("check"), [book]) => Ok(Request::Check(CheckRequest { book: book.into() })),
+        (Some("build"), [book, recording, top, store]) => Ok(Request::Build(BuildRequest {
+            book: book.into(),
+            recording: recording.into(),
+            top: top_level(top)?,
+            store: store.into(),
+        })),
+        (Some("play"), [book, store, samples, top, rate, drive, out]) => {
+            Ok(Request::Play(PlayRequest {
+                book: book.into(),
+                store: store.into(),
+                samples: sample_count(samples)?,
+                top: top_level(top)?,
+                rate: opening_rate(rate)?,
+                drive: drive.into(),
+                out: out.into(),
+                sample_rate: given.sample_rate.unwrap_or(SAMPLE_RATE),
+            }))
+        }
+        (Some(name @ ("check" | "build" | "play")), _) => {
+            Err(misused(&format!("wrong count of arguments for {name}")))
+        }
+        _ => Err(misused(&format!("no command {}", command.display()))),
+    }
+}
+
+/// Parts the options from the rest. After `--` there are none.
+fn sorted(mut arguments: impl Iterator<Item = OsString>) -> Result<Given, Failure> {
+    let mut given = Given::default();
+    while let Some(argument) = arguments.next() {
+        match argument.to_str() {
+            Some("--") => given.operands.extend(arguments.by_ref()),
+            Some("--help" | "-h") => given.help = true,
+            Some("--version" | "-V") => given.version = true,
+            Some("--sample-rate") => {
+                let value = arguments.next();
+                let value = value.ok_or_else(|| misused("--sample-rate takes a number"))?;
+                given.sample_rate = Some(sample_rate(&value)?);
+            }
+            Some(option) if option.starts_with('-') && option.len() > 1 => {
+                let Some(value) = option.strip_prefix("--sample-rate=") else {
+                    return Err(misused(&format!("no option {option}")));
+                };
+                given.sample_rate = Some(sample_rate(&value.into())?);
+            }
+            _ => given.operands.push(argument),
+        }
+    }
+    Ok(given)
+}
+
+fn misused(what: &str) -> Failure {
+    Failure::unusable(what, "see tone --help")
+}
+
+/// A whole number, whatever its size: see [`drive::whole_number`].
+fn number(name: &str, text: &OsString) -> Result<u64, Failure> {
+    text.to_str()
+        .and_then(drive::whole_number)
+        .ok_or_else(|| Failure::unusable(name, format!("{text:?} is not a whole number")))
+}
+
+fn top_level(text: &OsString) -> Result<u32, Failure> {
+    Ok(u32::try_from(number("T", text)?).unwrap_or(u32::MAX))
+}
+
+fn sample_count(text: &OsString) -> Result<usize, Failure> {
+    Ok(usize::try_from(number("S", text)?).unwrap_or(usize::MAX))
+}
+
+fn opening_rate(text: &OsString) -> Result<f32, Failure> {
+    text.to_str()
+        .and_then(drive::decimal_rate)
+        .ok_or_else(|| Failure::unusable("RATE", format!("{text:?} is not a decimal")))
+}
+
+/// A WAV header also holds twice the sample rate, in 32 bits.
+fn sample_rate(text: &OsString) -> Result<u32, Failure> {
+    let range = 1..=u64::from(u32::MAX / 2);
+    match number("--sample-rate", text)? {
+        rate if range.contains(&rate) => Ok(rate as u32),
+        rate => Err(Failure::unusable(
+            "--sample-rate",
+            format!("{rate} is outside 1..2147483647"),
+        )),
+    }
+}

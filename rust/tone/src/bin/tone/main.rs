@@ -1,0 +1,119 @@
+//! The command `tone`, for studios and fitters: tests filter books, builds the
+//! octave levels of recordings, and plays drives into WAV files. Every call is
+//! the library's, and a refusal is shown with its number.
+//!
+//! ```text
+//! tone check BOOK
+//! tone build BOOK RECORDING.wav T STORE
+//! tone play BOOK STORE S T RATE DRIVE OUT.wav
+//! ```
+//!
+//! [`arguments::HELP`] is what `tone --help` prints: the forms of all files and
+//! the exit statuses.
+
+#![deny(unsafe_code)]
+#![warn(missing_docs)]
+
+mod arguments;
+mod drive;
+mod failure;
+#[allow(unsafe_code)]
+mod interrupt;
+mod output;
+mod progress;
+mod wav;
+mod words;
+
+use std::env;
+use std::fmt;
+use std::io::Write;
+use std::path::Path;
+use std::process::ExitCode;
+
+use arguments::{BuildRequest, CheckRequest, PlayRequest, Request};
+use failure::Failure;
+use output::Output;
+use progress::Progress;
+
+fn main() -> ExitCode {
+    match run() {
+        Ok(()) => ExitCode::SUCCESS,
+        Err(failure) => {
+            // Where standard error is closed the status still says it.
+            let _ = writeln!(std::io::stderr(), "{failure}");
+            ExitCode::from(failure.status())
+        }
+    }
+}
+
+fn run() -> Result<(), Failure> {
+    match arguments::read(env::args_os().skip(1))? {
+        Request::Help => say(format_args!("{}", arguments::HELP)),
+        Request::Version => say(format_args!("tone {}\n", env!("CARGO_PKG_VERSION"))),
+        Request::Check(request) => check(&request),
+        Request::Build(request) => build(&request),
+        Request::Play(request) => play(&request),
+    }
+}
+
+/// Writes to standard output.
+fn say(text: fmt::Arguments<'_>) -> Result<(), Failure> {
+    let mut out = std::io::stdout().lock();
+    out.write_fmt(text)
+        .and_then(|()| out.flush())
+        .map_err(|error| Failure::unusable("standard output", error))
+}
+
+fn check(request: &CheckRequest) -> Result<(), Failure> {
+    let book = words::read_book(&request.book)?;
+    tone::check(&book).map_err(Failure::plain_refusal)?;
+    say(format_args!("accepted\n"))
+}
+
+/// The level builder. It needs no player.
+fn build(request: &BuildRequest) -> Result<(), Failure> {
+    let book = words::read_book(&request.book)?;
+    let samples = wav::read_file(&request.recording)?;
+    // Where S or T is outside its range there is no length to make room for:
+    // the call says so, if the book does not come first.
+    let words = tone::store_words(samples.len(), request.top).unwrap_or(0);
+    let mut store = vec![0; words];
+    let mut progress = Progress::new();
+    progress.show(format_args!("building {} samples", samples.len()));
+    tone::build(&book, &samples, request.top, &mut store)
+        .map_err(|refusal| Failure::refused("build", refusal))?;
+    let mut output = Output::create(&request.store, &[&request.book, &request.recording])?;
+    output.write_with(|file| words::write_store(file, &store))?;
+    output.finish()?;
+    drop(progress);
+    say(format_args!(
+        "S {}, T {}: {words} words\n",
+        samples.len(),
+        request.top
+    ))
+}
+
+fn play(request: &PlayRequest) -> Result<(), Failure> {
+    let book = words::read_book(&request.book)?;
+    let store = words::read_store(&request.store)?;
+    let lines = drive::read_file(&request.drive)?;
+    let header = wav::Header::new(request.sample_rate, drive::outputs(&lines))
+        .map_err(|fault| Failure::unusable(request.drive.display(), fault))?;
+    let mut player = drive::Player::open(&book, &store, request)?;
+    let inputs: [&Path; 3] = [&request.book, &request.store, &request.drive];
+    let mut output = Output::create(&request.out, &inputs)?;
+    output.write_with(|file| header.write(file))?;
+    let mut progress = Progress::new();
+    for (done, line) in lines.iter().enumerate() {
+        interrupt::test()?;
+        let played = player.perform(line).map_err(|refusal| {
+            let place = format!("{}:{}", request.drive.display(), line.number);
+            Failure::refused(&place, refusal)
+        })?;
+        output.write_with(|file| wav::write_samples(file, played))?;
+        progress.show(format_args!("{} of {} calls", done + 1, lines.len()));
+    }
+    output.finish()?;
+    drop(progress);
+    say(format_args!("{} outputs\n", header.samples()))
+}

@@ -1,0 +1,287 @@
+//! Document 01's bench cases and every refusal number, through the crate.
+
+use tone::{archive, build, check, store_words, Refusal, Voice, VOICE_LENGTH, VOICE_WORDS};
+
+/// Book K with another F, h[0] and g[0].
+fn book_k(f: i32, h: i32, g: i32) -> Vec<i32> {
+    vec![2, 1, 0, 0, f, 0, 16384, 16384, -16384, h, g]
+}
+
+fn plain_k() -> Vec<i32> {
+    book_k(1, 16384, 16384)
+}
+
+fn store_of(book: &[i32], samples: &[i16], top: u32) -> Vec<i32> {
+    let mut store = vec![0; store_words(samples.len(), top).unwrap()];
+    build(book, samples, top, &mut store).unwrap();
+    store
+}
+
+/// Opens, jumps where a rate to jump to is given, and plays `count` outputs.
+fn drive(
+    book: &[i32],
+    top: u32,
+    samples: &[i16],
+    rates: &[f32],
+    count: usize,
+) -> (Vec<i16>, Voice) {
+    let store = store_of(book, samples, top);
+    let mut voice = Voice::open(rates[0], top).unwrap();
+    for rate in &rates[1..] {
+        voice.jump(*rate).unwrap();
+    }
+    let mut out = vec![0; count];
+    voice.play(book, &store, samples.len(), &mut out).unwrap();
+    (out, voice)
+}
+
+fn number<T: std::fmt::Debug>(answer: Result<T, Refusal>) -> u32 {
+    answer.unwrap_err().number()
+}
+
+/// R, which stands in words 4 and 5.
+fn fixed_rate(voice: &Voice) -> u64 {
+    wide(voice.words(), 4)
+}
+
+fn wide(words: &[i32; VOICE_WORDS], at: usize) -> u64 {
+    u64::from(words[at] as u32) | u64::from(words[at + 1] as u32) << 32
+}
+
+fn with(voice: &Voice, changes: &[(usize, i32)]) -> Voice {
+    let mut words = *voice.words();
+    for (at, word) in changes {
+        words[*at] = *word;
+    }
+    Voice::from_words(words)
+}
+
+#[test]
+fn cases_a_and_b() {
+    let samples = [0, 1000, 2000];
+    let (out, _) = drive(&plain_k(), 0, &samples, &[1.0], 4);
+    assert_eq!(out, [500, 1500, 1000, 0]);
+    let (out, _) = drive(&plain_k(), 1, &samples, &[2.0], 3);
+    assert_eq!(out, [1000, 1000, 0]);
+}
+
+#[test]
+fn cases_c_and_d() {
+    let samples = [0, 1000, 0, 1000];
+    let (out, voice) = drive(&book_k(4, 16384, 16384), 1, &samples, &[1.0, 2.0], 2);
+    assert_eq!(out, [500, 0]);
+    assert_eq!(voice.words()[1..4], [1, 1, 0]);
+    let (out, _) = drive(&plain_k(), 1, &samples, &[1.0, 2.0], 2);
+    assert_eq!(out, [0, 0]);
+}
+
+#[test]
+fn case_f() {
+    let book = book_k(1, 32, 16384);
+    assert_eq!(store_of(&book, &[1], 1), [256, 1]);
+    assert_eq!(store_of(&book, &[-1], 1), [-256, 0]);
+}
+
+#[test]
+fn case_g() {
+    let book = book_k(1, 16384, 32767);
+    assert_eq!(drive(&book, 0, &[32767; 3], &[1.0], 1).0, [32767]);
+    assert_eq!(drive(&book, 0, &[-32768; 3], &[1.0], 1).0, [-32768]);
+}
+
+#[test]
+fn glides_of_case_h_and_after() {
+    let book = plain_k();
+    let store = store_of(&book, &[0; 8], 1);
+    let rates = |from: f32, to: f32, count: u32| {
+        let mut voice = Voice::open(from, 1).unwrap();
+        voice.glide(to, count).unwrap();
+        let step = |_| {
+            voice.play(&book, &store, 8, &mut [0]).unwrap();
+            fixed_rate(&voice)
+        };
+        (0..count).map(step).collect::<Vec<_>>()
+    };
+    assert_eq!(rates(2.0, 1.0, 3)[0], 223_696_213);
+    let expected = [167_772_160, 201_326_592, 234_881_024, 268_435_456];
+    assert_eq!(rates(1.0, 2.0, 4), expected);
+}
+
+#[test]
+fn case_i() {
+    assert_eq!(store_words(3, 1), Some(5));
+    assert_eq!(store_words(1, 4), Some(5));
+    assert_eq!(store_words(1_048_576, 4), Some(2_031_616));
+    for (samples, top) in [
+        (0, 0),
+        (1_048_577, 0),
+        (usize::MAX, 4),
+        (1, 5),
+        (1, u32::MAX),
+    ] {
+        assert_eq!(store_words(samples, top), None);
+    }
+}
+
+#[test]
+fn case_j() {
+    assert_eq!(fixed_rate(&Voice::open(0.0625, 0).unwrap()), 8_388_608);
+    let below_two = f32::from_bits(2f32.to_bits() - 1);
+    assert_eq!(fixed_rate(&Voice::open(below_two, 0).unwrap()), 268_435_440);
+    assert_eq!(number(Voice::open(2.0, 0)), 10);
+}
+
+#[test]
+fn limits_of_counts_and_positions() {
+    let fresh = Voice::open(1.0, 0).unwrap();
+    let mut voice = fresh.clone();
+    assert_eq!(number(voice.glide(1.5, 0)), 11);
+    assert_eq!(number(voice.glide(1.5, 65_537)), 11);
+    assert_eq!(number(voice.seek((1 << 60) + 1)), 12);
+    assert_eq!(voice, fresh);
+    voice.glide(1.5, 65_536).unwrap();
+    voice.seek(1 << 60).unwrap();
+    assert_eq!(wide(voice.words(), 12), 1 << 60);
+    let store = store_of(&plain_k(), &[0; 3], 0);
+    let before = voice.clone();
+    voice.play(&plain_k(), &store, 3, &mut []).unwrap();
+    assert_eq!(voice, before);
+}
+
+/// A book for each of 1 to 7, by the change that brings it about.
+fn refused_books() -> Vec<Vec<i32>> {
+    let changed = |at: usize, word: i32| {
+        let mut book = plain_k();
+        book[at] = word;
+        book
+    };
+    vec![
+        plain_k()[..4].to_vec(),
+        changed(0, 3),
+        plain_k()[..10].to_vec(),
+        changed(9, 32768),
+        changed(5, 1),
+        changed(7, 1),
+        vec![2, 1, 0, 1, 1, 0, 16384, 16384, -16384, 16384, 16384, 8193],
+    ]
+}
+
+#[test]
+fn books_that_are_refused() {
+    assert_eq!(check(&plain_k()), Ok(()));
+    let store = store_of(&plain_k(), &[5; 3], 0);
+    let fresh = Voice::open(1.0, 0).unwrap();
+    for (at, book) in refused_books().iter().enumerate() {
+        let expected = at as u32 + 1;
+        assert_eq!(number(check(book)), expected);
+        let mut space = [77; 3];
+        assert_eq!(number(build(book, &[5; 3], 0, &mut space)), expected);
+        assert_eq!(space, [77; 3]);
+        let (mut voice, mut out) = (fresh.clone(), [77; 3]);
+        assert_eq!(number(voice.play(book, &store, 3, &mut out)), expected);
+        assert_eq!((voice, out), (fresh.clone(), [77; 3]));
+    }
+}
+
+#[test]
+fn stores_that_are_refused() {
+    let book = plain_k();
+    assert_eq!(number(build(&book, &[], 0, &mut [0; 3])), 8);
+    assert_eq!(number(build(&book, &[1], 5, &mut [0; 9])), 8);
+    assert_eq!(number(build(&book, &[1; 3], 1, &mut [0; 4])), 9);
+    assert_eq!(number(Voice::open(1.0, 5)), 8);
+    let mut voice = Voice::open(1.0, 1).unwrap();
+    let mut out = [77; 2];
+    assert_eq!(number(voice.play(&book, &[0; 9], 0, &mut out)), 8);
+    assert_eq!(number(voice.play(&book, &[0; 9], 1 << 21, &mut out)), 8);
+    assert_eq!(number(voice.play(&book, &[0; 4], 3, &mut out)), 9);
+    assert_eq!(out, [77; 2]);
+}
+
+#[test]
+fn voices_that_are_refused() {
+    let book = plain_k();
+    let store = store_of(&book, &[5; 3], 1);
+    let fresh = Voice::open(1.0, 1).unwrap();
+    let cases = [
+        (13, with(&fresh, &[(1, 2), (2, 2)])),
+        (14, with(&fresh, &[(3, 1)])),
+        (15, with(&fresh, &[(5, 1)])),
+        (16, with(&fresh, &[(12, 1), (13, 1 << 28)])),
+        (17, with(&fresh, &[(94, (1 << 29) + 1)])),
+        (17, with(&fresh, &[(14, i32::MIN)])),
+    ];
+    for (expected, damaged) in cases {
+        let (mut voice, mut out) = (damaged.clone(), [77; 2]);
+        let played = voice.play(&book, &store, 3, &mut out);
+        assert_eq!((number(played), out), (expected, [77; 2]));
+        // Without a book there is no F, so 14 is for play alone.
+        if expected != 14 {
+            assert_eq!(number(voice.jump(1.0)), expected);
+            assert_eq!(number(voice.glide(1.0, 1)), expected);
+            assert_eq!(number(voice.seek(0)), expected);
+        }
+        assert_eq!(voice, damaged);
+    }
+}
+
+#[test]
+fn a_slice_of_too_many_outputs() {
+    let book = plain_k();
+    let store = store_of(&book, &[0, 1000, 2000], 0);
+    let fresh = Voice::open(1.0, 0).unwrap();
+    let (mut voice, mut out) = (fresh.clone(), vec![77; 1_048_577]);
+    assert_eq!(number(voice.play(&book, &store, 3, &mut out)), 11);
+    assert_eq!(voice, fresh);
+    assert!(out.iter().all(|sample| *sample == 77));
+    voice.play(&book, &store, 3, &mut out[..1_048_576]).unwrap();
+    assert_eq!(out[..4], [500, 1500, 1000, 0]);
+    assert_eq!(out[1_048_575..], [0, 77]);
+}
+
+#[test]
+fn voice_slices_of_another_length() {
+    let book = plain_k();
+    let store = store_of(&book, &[5; 3], 0);
+    for length in [0, 1, 94, 96, 200] {
+        let mut voice = vec![77; length];
+        let mut out = [77; 2];
+        assert_eq!(archive::open(1.0, 0, &mut voice), VOICE_LENGTH);
+        assert_eq!(archive::open(f32::NAN, 9, &mut voice), VOICE_LENGTH);
+        assert_eq!(archive::jump(&mut voice, 1.0), VOICE_LENGTH);
+        assert_eq!(archive::glide(&mut voice, 1.0, 1), VOICE_LENGTH);
+        assert_eq!(archive::seek(&mut voice, 0), VOICE_LENGTH);
+        let played = archive::play(&mut voice, &book, &store, 3, &mut out);
+        assert_eq!(played, VOICE_LENGTH);
+        assert_eq!(
+            archive::play(&mut voice, &[], &[], 0, &mut out),
+            VOICE_LENGTH
+        );
+        assert_eq!((voice, out), (vec![77; length], [77; 2]));
+    }
+}
+
+#[test]
+fn a_refused_opening_writes_the_zero_record() {
+    for (rate, top, expected) in [(1.0, 5, 8), (32.0, 4, 10), (f32::NAN, 0, 10)] {
+        let mut voice = [77; VOICE_WORDS];
+        assert_eq!(archive::open(rate, top, &mut voice), expected);
+        assert_eq!(voice, [0; VOICE_WORDS]);
+    }
+}
+
+#[test]
+fn every_number_has_a_meaning() {
+    let book = plain_k();
+    let refusals = [
+        check(&[]).unwrap_err(),
+        build(&book, &[], 0, &mut []).unwrap_err(),
+        Voice::open(1.0, 5).unwrap_err(),
+        Voice::from_words([0; VOICE_WORDS]).jump(1.0).unwrap_err(),
+    ];
+    let lines = refusals.map(|refusal| refusal.to_string());
+    assert_eq!(lines[0], "refused 1: the book is shorter than 5 words");
+    assert_eq!(lines[1], lines[2]);
+    assert!(lines[1].starts_with("refused 8: "));
+    assert!(lines[3].starts_with("refused 15: "));
+}

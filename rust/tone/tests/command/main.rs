@@ -1,0 +1,11 @@
+//! The command `tone`, end to end: what it prints, its exit status and the
+//! files that it leaves, beside the library's own calls.
+
+#[macro_use]
+mod bench;
+mod build;
+mod check;
+mod examples;
+mod files;
+mod play;
+mod usage;
