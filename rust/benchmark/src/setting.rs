@@ -1,0 +1,115 @@
+//! The book and the recording that all are measured with.
+
+use std::f64::consts::PI;
+
+/// Samples of the recording: the most that a store takes.
+pub const SAMPLES: usize = 1_048_576;
+
+/// T of the store.
+pub const TOP: u32 = 4;
+
+/// N
+const TAPS: usize = 12;
+
+/// M
+const PHASES: usize = 64;
+
+/// A
+const LEVEL_REACH: usize = 40;
+
+/// F
+const FADE: i32 = 64;
+
+/// 1 in a book.
+const ONE: f64 = 16384.0;
+
+/// A book, a recording, and the store built from both.
+pub struct Setting {
+    /// The book's words.
+    pub book: Vec<i32>,
+    /// The recording.
+    pub samples: Vec<i16>,
+    /// The recording as other resamplers take it.
+    pub floats: Vec<f32>,
+    /// Its levels 0 to T.
+    pub store: Vec<i32>,
+}
+
+impl Setting {
+    /// N = 12, M = 64, A = 40, F = 64, and B = `decimation`.
+    pub fn new(decimation: usize) -> Setting {
+        let book = book(decimation);
+        let samples = recording();
+        let floats = samples.iter().map(|x| f32::from(*x) / 32768.0).collect();
+        let words = tone::store_words(samples.len(), TOP).expect("S and T are in range");
+        let mut store = vec![0; words];
+        tone::build(&book, &samples, TOP, &mut store).expect("the book is accepted");
+        Setting {
+            book,
+            samples,
+            floats,
+            store,
+        }
+    }
+}
+
+/// Windowed sincs, for the phases and for both halvings.
+fn book(decimation: usize) -> Vec<i32> {
+    let impulse = |t: usize| {
+        let x = t as f64 / PHASES as f64 - TAPS as f64 / 2.0;
+        (ONE * sinc(x) * window(x / (TAPS as f64 / 2.0))).round() as i32
+    };
+    // In the order of time, G_q[k] is impulse k × M + q, and 0 behind the last.
+    let count = TAPS * PHASES;
+    let times: Vec<i32> = (0..count).map(impulse).chain([0]).collect();
+    let at = |place: usize| place % TAPS * PHASES + place / TAPS;
+    let mut words = [TAPS, PHASES, LEVEL_REACH, decimation]
+        .map(|size| size as i32)
+        .to_vec();
+    words.push(FADE);
+    words.extend((0..count).map(|place| times[at(place)]));
+    words.extend((0..count).map(|place| times[at(place) + 1] - times[at(place)]));
+    words.extend(half_band(LEVEL_REACH));
+    words.extend(half_band(decimation));
+    words
+}
+
+/// Taps of a halving filter, the centre first.
+fn half_band(reach: usize) -> impl Iterator<Item = i32> {
+    (0..=reach).map(move |k| {
+        let x = k as f64;
+        (0.5 * ONE * sinc(x / 2.0) * window(x / (reach as f64 + 1.0))).round() as i32
+    })
+}
+
+fn sinc(x: f64) -> f64 {
+    if x == 0.0 {
+        1.0
+    } else {
+        (PI * x).sin() / (PI * x)
+    }
+}
+
+/// The Hann window, from -1 to 1.
+fn window(x: f64) -> f64 {
+    if x.abs() < 1.0 {
+        0.5 + 0.5 * (PI * x).cos()
+    } else {
+        0.0
+    }
+}
+
+/// A hum of some partials with a little noise.
+fn recording() -> Vec<i16> {
+    let mut state = 0u32;
+    let mut sample = |at: usize| {
+        state = state.wrapping_mul(1_664_525).wrapping_add(1_013_904_223);
+        let noise = f64::from(state >> 16) / 32768.0 - 1.0;
+        let phase = at as f64 * 2.0 * PI * 110.0 / 48000.0;
+        let hum: f64 = (1..=5)
+            .map(|k| (f64::from(k) * phase).sin() / f64::from(k))
+            .sum();
+        (9000.0 * hum + 500.0 * noise) as i16
+    };
+    (0..SAMPLES).map(&mut sample).collect()
+}

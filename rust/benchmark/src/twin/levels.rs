@@ -1,0 +1,102 @@
+//! Octave levels: sizes, the builder, and the levels of a store.
+
+use super::book::Book;
+use super::halving::{Taps, MOST_REACH};
+
+/// The words of a store for S samples and top level T; 0 where one of them is
+/// outside its range.
+pub fn store_words(samples: usize, top: u32) -> usize {
+    if !(1..=1_048_576).contains(&samples) || top > 4 {
+        return 0;
+    }
+    (0..=top).map(|level| level_length(samples, level)).sum()
+}
+
+/// Halved `level` times, rounded up each time.
+fn level_length(samples: usize, level: u32) -> usize {
+    (samples + (1 << level) - 1) >> level
+}
+
+/// The levels of a store.
+#[derive(Clone, Copy)]
+pub(super) struct Levels<'a> {
+    words: [&'a [i32]; 5],
+}
+
+impl<'a> Levels<'a> {
+    /// Numbers 8 and 9.
+    pub fn accepted(store: &'a [i32], samples: usize, top: u32) -> Result<Levels<'a>, u32> {
+        let needed = store_words(samples, top);
+        if needed == 0 {
+            return Err(8);
+        }
+        if store.len() < needed {
+            return Err(9);
+        }
+        let mut words: [&[i32]; 5] = [&[]; 5];
+        let mut rest = store;
+        for (level, words) in words.iter_mut().enumerate().take(top as usize + 1) {
+            (*words, rest) = rest.split_at(level_length(samples, level as u32));
+        }
+        Ok(Levels { words })
+    }
+
+    /// The words of a level of at most T.
+    pub fn level(&self, level: u32) -> &'a [i32] {
+        self.words[level as usize]
+    }
+}
+
+/// The level builder: 0, or the first of the numbers 1 to 9.
+pub fn build(book: &[i32], samples: &[i16], top: u32, store: &mut [i32]) -> u32 {
+    let book = match Book::accepted(book) {
+        Ok(book) => book,
+        Err(number) => return number,
+    };
+    let needed = store_words(samples.len(), top);
+    if needed == 0 {
+        return 8;
+    }
+    if store.len() < needed {
+        return 9;
+    }
+    let (mut below, mut rest) = store.split_at_mut(samples.len());
+    for (word, sample) in below.iter_mut().zip(samples) {
+        *word = i32::from(*sample) * 256;
+    }
+    let taps = Taps::of(book.level_taps);
+    for _ in 0..top {
+        let (next, after) = rest.split_at_mut(below.len().div_ceil(2));
+        next_level(&taps, below, next);
+        (below, rest) = (next, after);
+    }
+    0
+}
+
+/// Words of the level above that are made at a time.
+const BLOCK: usize = 256;
+
+/// The level above `below`, in blocks: the words that a block reads are widened
+/// once, with zeros outside the level, so that the sums need no test.
+fn next_level(taps: &Taps, below: &[i32], next: &mut [i32]) {
+    let mut words = [0; 2 * BLOCK + 2 * MOST_REACH];
+    let reach = taps.reach();
+    for (at, block) in next.chunks_mut(BLOCK).enumerate() {
+        let window = &mut words[..2 * block.len() - 1 + 2 * reach];
+        widen(below, 2 * BLOCK * at, reach, window);
+        taps.halve(window, block, |sum| ((sum + 8192) >> 14) as i32);
+    }
+}
+
+/// Copies the words from `reach` before `start` on, 0 outside the level.
+fn widen(below: &[i32], start: usize, reach: usize, window: &mut [i64]) {
+    let before = reach.saturating_sub(start);
+    let (zeros, window) = window.split_at_mut(before);
+    zeros.fill(0);
+    let words = &below[start + before - reach..];
+    let inside = words.len().min(window.len());
+    for (slot, word) in window.iter_mut().zip(words) {
+        *slot = i64::from(*word);
+    }
+    window[inside..].fill(0);
+}

@@ -1,0 +1,23 @@
+//! The player's rules written by hand for speed in safe Rust: what the proved
+//! archive's time is measured against.
+//!
+//! Every call gives the archive's numbers, words and samples bit by bit. Sums
+//! are 64-bit integers, as in document 01; the code is for any x86-64. SSE2 has
+//! no product of signed 32-bit words, so products are scalar, and what costs is
+//! their number: 4N + B + 1 an output. All else is kept off them: tests, limits
+//! and edges once per block of outputs, the glide's division once per call, the
+//! history moved once per block.
+
+#![forbid(unsafe_code)]
+
+mod book;
+mod control;
+mod halving;
+mod levels;
+mod play;
+mod values;
+mod voice;
+
+pub use book::check;
+pub use levels::{build, store_words};
+pub use voice::{Voice, VOICE_WORDS};
