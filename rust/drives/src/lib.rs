@@ -19,6 +19,7 @@
 
 pub mod drive;
 pub mod inputs;
+pub mod rattle;
 pub mod record;
 pub mod recorded;
 pub mod run;

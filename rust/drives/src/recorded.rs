@@ -3,14 +3,18 @@
 
 use crate::inputs::list_of_calls;
 use crate::record::{words_of, Words};
-use renderer::exact::{setting_store, Call, Setting};
+use renderer::exact::{Call, Setting};
 use renderer::random::{bad_rate, book_of_sizes, random_rate, random_recording, Rng};
-use renderer::{open, order, play, seek, Card, Lent, Order, Voice};
+use renderer::{build, open, order, play, seek, Card, Lent, Order, Voice};
 use std::fmt::{self, Display};
 use tone::VOICE_WORDS;
 
-/// What each word of an output slice holds before its play.
+/// What each word of an output slice holds before its play, and each word of a
+/// store before it is built.
 pub const BEFORE: i16 = 77;
+
+/// Words of a small drive's store: enough for levels 0 to 3 of 64 samples.
+pub const STORE_WORDS: usize = 64 + 32 + 16 + 8;
 
 /// Most calls of a small drive.
 pub const MOST_CALLS: usize = 12;
@@ -35,6 +39,10 @@ pub struct SmallDrive {
     pub seed: u64,
     /// Book, recording and T.
     pub setting: Setting,
+    /// The building's number.
+    pub built: u32,
+    /// The store, with the words after its levels.
+    pub store: Vec<i32>,
     /// The opening's rate.
     pub rate: f32,
     /// The opening's number.
@@ -106,7 +114,8 @@ pub fn small_drive(seed: u64) -> SmallDrive {
         _ => random_rate(&mut rng, setting.top),
     };
     let list = small_calls(&mut rng, &setting, rate);
-    let store = setting_store(&setting).expect("the book is accepted");
+    let mut store = vec![i32::from(BEFORE); STORE_WORDS];
+    let built = build(&setting.book, &setting.samples, setting.top, &mut store);
     let lent = Lent {
         book: &setting.book,
         store: &store,
@@ -122,11 +131,13 @@ pub fn small_drive(seed: u64) -> SmallDrive {
         .collect();
     SmallDrive {
         seed,
+        built,
         rate,
         opened,
         calls,
         voice: words_of(&voice, &[0; VOICE_WORDS]),
         setting,
+        store,
     }
 }
 
@@ -154,15 +165,19 @@ impl Display for Answered {
     }
 }
 
-/// Lines "drive", "book", "samples", "top", "open", "jump", "glide", "seek" and
-/// "play", each call followed by "number" and a play's number by "out"; "voice"
-/// is the last. Rates are f32 bits in hexadecimal.
+/// Lines "drive", "book", "samples", "top", then "build" with the words of the
+/// store, "open", "jump", "glide", "seek" and "play", each call followed by
+/// "number", a building's number by "store" and a play's by "out"; "voice" is the
+/// last. Rates are f32 bits in hexadecimal.
 impl Display for SmallDrive {
     fn fmt(&self, f: &mut fmt::Formatter<'_>) -> fmt::Result {
         writeln!(f, "drive {}", self.seed)?;
         line(f, "book", &self.setting.book)?;
         line(f, "samples", &self.setting.samples)?;
         writeln!(f, "top {}", self.setting.top)?;
+        writeln!(f, "build {}", self.store.len())?;
+        writeln!(f, "number {}", self.built)?;
+        line(f, "store", &self.store)?;
         writeln!(f, "open {:08x}", self.rate.to_bits())?;
         writeln!(f, "number {}", self.opened)?;
         for call in &self.calls {
@@ -185,6 +200,7 @@ mod tests {
             assert!(book[0] <= 4 && book[1] <= 4 && book[4] <= 8);
             assert!(book[2] <= 3 && book[3] <= 3 && drive.setting.top <= 3);
             assert!(drive.setting.samples.len() <= 64);
+            assert_eq!(drive.built, 0);
             assert!(drive.calls.len() <= MOST_CALLS);
             let outputs: usize = drive.calls.iter().map(|call| call.out.len()).sum();
             assert!(outputs <= MOST_SMALL_OUTPUTS);
@@ -198,8 +214,9 @@ mod tests {
             .lines()
             .map(|line| line.split(' ').next().unwrap_or(""))
             .collect();
-        let head = ["drive", "book", "samples", "top", "open", "number"];
-        assert_eq!(names[..6], head);
+        let head = ["drive", "book", "samples", "top"];
+        let answers = ["build", "number", "store", "open", "number"];
+        assert_eq!(names[..9], [&head[..], &answers].concat());
         assert_eq!(names.last(), Some(&"voice"));
     }
 }

@@ -1,0 +1,24 @@
+// A drive: a book, samples, a top level, the bits of the opening's rate and calls. Its text has what is given, and what each call hands
+// back.
+use crate::calls;
+use crate::lines;
+
+// Builds the store.
+fn built(book: &[i32], samples: &[i16], top: u32, store: &mut [i32]) {
+    lines::number(b"build", store.len() as u64);
+    let number = levels::build(book, samples, top, store);
+    lines::number(b"number", number as u64);
+    lines::words(b"store", store);
+}
+
+// Prints a drive. Its store has 120 words, enough for levels 0..3 of 64 samples; they are 77 before they are built.
+pub fn text(seed: u64, book: &[i32], samples: &[i16], top: u32, rate: u32, rows: &[[u64; 3]]) {
+    let mut store = [77i32; 120];
+    lines::number(b"drive", seed);
+    lines::words(b"book", book);
+    lines::samples(b"samples", samples);
+    lines::number(b"top", top as u64);
+    built(book, samples, top, &mut store);
+    let v = calls::opened(rate, top);
+    lines::voice(calls::all(v, rows, book, &store, samples.len()));
+}

@@ -1,0 +1,101 @@
+//! Small drives as a program of the player's own language: a module of constants
+//! for each, and the text that the program must print, which is the renderer's.
+//!
+//! `recorded --rattle crates/recorded_drives` writes both; the program's other
+//! modules play the drives and print their text. The test `recorded` holds the
+//! files to what is made here.
+
+use crate::recorded::{small_drive, SmallDrive};
+use renderer::exact::Call;
+use std::fmt::Display;
+use std::path::Path;
+use std::{fs, io};
+
+/// The drives of `crates/recorded_drives`. The test `recorded` lists what they
+/// show: T 0 to 3, fades up and down by one to three levels, rate changes inside
+/// a fade, glides, a position that stops at 2^60, outputs at both limits, refused
+/// calls of every kind.
+pub const SEEDS: [u64; 8] = [562, 567, 757, 988, 1067, 1853, 2325, 2560];
+
+/// Longest text between the brackets of an array that stays on one line, as the
+/// formatter of the language has it.
+const ONE_LINE: usize = 60;
+
+/// An array's elements in brackets.
+fn array(elements: &[String]) -> String {
+    let line = elements.join(", ");
+    match line.len() <= ONE_LINE {
+        true => format!("[{line}]"),
+        false => format!("[\n    {},\n]", elements.join(",\n    ")),
+    }
+}
+
+fn constant<T: Display>(name: &str, kind: &str, words: &[T]) -> String {
+    let count = words.len();
+    let elements: Vec<String> = words.iter().map(T::to_string).collect();
+    format!(
+        "const {name}: [{kind}; {count}] = {};\n\n",
+        array(&elements)
+    )
+}
+
+/// The name of a call, as the program's module `calls` has it.
+fn name(call: Call) -> &'static str {
+    match call {
+        Call::Jump(_) => "JUMP",
+        Call::Glide(..) => "GLIDE",
+        Call::Seek(_) => "SEEK",
+        Call::Play(_) => "PLAY",
+    }
+}
+
+/// A call as a row of three numbers.
+fn row(call: Call) -> String {
+    let name = name(call);
+    match call {
+        Call::Jump(rate) => format!("[{name}, 0x{:08x}, 0]", rate.to_bits()),
+        Call::Glide(rate, count) => format!("[{name}, 0x{:08x}, {count}]", rate.to_bits()),
+        Call::Seek(position) => format!("[{name}, {position}, 0]"),
+        Call::Play(count) => format!("[{name}, {count}, 0]"),
+    }
+}
+
+/// The module of a drive.
+pub fn module(drive: &SmallDrive) -> String {
+    let calls = || drive.calls.iter().map(|answered| answered.call);
+    let mut names: Vec<&str> = calls().map(name).collect();
+    names.sort_unstable();
+    names.dedup();
+    let mut text = format!("// Drive {}, made by rust/drives.\n", drive.seed);
+    for name in names {
+        text += &format!("use crate::calls::{name};\n");
+    }
+    text += "use crate::drive;\n\n";
+    text += &constant("BOOK", "i32", &drive.setting.book);
+    text += &constant("SAMPLES", "i16", &drive.setting.samples);
+    let rows: Vec<String> = calls().map(row).collect();
+    text += &constant("CALLS", "[u64; 3]", &rows);
+    let (seed, top, rate) = (drive.seed, drive.setting.top, drive.rate.to_bits());
+    let given = format!("{seed}, &BOOK, &SAMPLES, {top}, 0x{rate:08x}, &CALLS");
+    text + &format!("pub fn text() {{\n    drive::text({given});\n}}\n")
+}
+
+/// The files of the drives of these seeds, by their paths in the program's
+/// folder: a module for each, and the text of them all.
+pub fn files(seeds: &[u64]) -> Vec<(String, String)> {
+    let drives: Vec<SmallDrive> = seeds.iter().map(|seed| small_drive(*seed)).collect();
+    let modules = drives
+        .iter()
+        .map(|drive| (format!("src/drive_{}.rt", drive.seed), module(drive)));
+    let text = drives.iter().map(SmallDrive::to_string).collect();
+    let text = ("stdout".to_string(), text);
+    modules.chain([text]).collect()
+}
+
+/// Writes the files of [`SEEDS`] into the program's folder.
+pub fn write_files(folder: &Path) -> io::Result<()> {
+    for (path, text) in files(&SEEDS) {
+        fs::write(folder.join(path), text)?;
+    }
+    Ok(())
+}

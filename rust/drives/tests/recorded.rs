@@ -1,0 +1,141 @@
+//! The program `recorded_drives`: its drives and its expected output are the
+//! renderer's, and the drives show what they were chosen for.
+
+use drives::rattle::{files, SEEDS};
+use drives::recorded::{small_drive, Answered, SmallDrive};
+use renderer::exact::Call;
+use renderer::{open, order, play, seek, Card, Lent, Order, Voice};
+use std::collections::BTreeSet;
+use std::fs;
+use std::path::{Path, PathBuf};
+
+fn program_folder() -> PathBuf {
+    Path::new(env!("CARGO_MANIFEST_DIR")).join("../../crates/recorded_drives")
+}
+
+#[test]
+fn files_are_the_renderers() {
+    let folder = program_folder();
+    for (path, text) in files(&SEEDS) {
+        let found = fs::read_to_string(folder.join(&path));
+        let found = found.unwrap_or_else(|error| panic!("{path}: {error}"));
+        assert!(found == text, "{path}: run `recorded --rattle` again");
+    }
+}
+
+/// Every module of a drive is one of the seeds', and the program prints each.
+#[test]
+fn no_other_drives() {
+    let folder = program_folder().join("src");
+    let main = fs::read_to_string(folder.join("main.rt")).unwrap();
+    let files = fs::read_dir(&folder).unwrap();
+    let modules: BTreeSet<String> = files
+        .map(|entry| entry.unwrap().file_name().into_string().unwrap())
+        .filter(|name| name.starts_with("drive_"))
+        .collect();
+    let expected = SEEDS.map(|seed| format!("drive_{seed}.rt"));
+    assert_eq!(modules, BTreeSet::from(expected));
+    let printed: Vec<&str> = main.lines().filter(|l| l.ends_with("::text();")).collect();
+    let expected = SEEDS.map(|seed| format!("    drive_{seed}::text();"));
+    assert_eq!(printed, expected);
+}
+
+type Seen = BTreeSet<String>;
+
+/// What stands in a voice between two outputs.
+fn see_voice(seen: &mut Seen, voice: &Voice) {
+    if voice.fade > 0 {
+        let (old, new) = (voice.level, voice.next_level);
+        seen.insert(format!("fade {old} to {new}"));
+        let asked = (0..4).rev().find(|l| voice.rate >> l >= 1 << 27);
+        if asked.unwrap_or(0) != new {
+            seen.insert("rate change inside a fade".to_string());
+        }
+    }
+    if voice.glide_done > 0 {
+        seen.insert("glide".to_string());
+    }
+    if voice.position == 1 << 60 {
+        seen.insert("position 2^60".to_string());
+    }
+}
+
+/// Plays one output after another, and sees every voice on the way.
+fn see_play(seen: &mut Seen, voice: &mut Voice, lent: &Lent, count: usize) {
+    for _ in 0..count {
+        let gliding = voice.glide_count > 0;
+        *voice = play(voice, lent, &mut [0]).1;
+        if gliding && voice.glide_count == 0 {
+            seen.insert("glide that ends".to_string());
+        }
+        see_voice(seen, voice);
+    }
+}
+
+fn see_answer(seen: &mut Seen, answered: &Answered) {
+    let kind = match answered.call {
+        Call::Jump(_) => "jump",
+        Call::Glide(..) => "glide",
+        Call::Seek(_) => "seek",
+        Call::Play(_) => "play",
+    };
+    let number = answered.number;
+    seen.insert(format!("{kind}: {number}"));
+    for limit in [i16::MIN, i16::MAX] {
+        if answered.out.contains(&limit) {
+            seen.insert(format!("output {limit}"));
+        }
+    }
+    match answered.call {
+        Call::Play(0) => seen.insert("play of no outputs".to_string()),
+        Call::Jump(rate) if rate.is_nan() => seen.insert("jump to NaN".to_string()),
+        _ => false,
+    };
+}
+
+fn see_drive(seen: &mut Seen, drive: &SmallDrive) {
+    let top = drive.setting.top;
+    let lent = Lent {
+        book: &drive.setting.book,
+        store: &drive.store,
+        samples: drive.setting.samples.len() as u64,
+    };
+    let rate = drive.rate;
+    let (number, mut voice) = open(Card { rate, top });
+    seen.insert(format!("open: {number}"));
+    if number == 0 {
+        seen.insert(format!("T {top}"));
+    }
+    for answered in &drive.calls {
+        see_answer(seen, answered);
+        match answered.call {
+            Call::Jump(rate) => voice = order(&voice, Order::Jump(rate)).1,
+            Call::Glide(rate, count) => voice = order(&voice, Order::Glide(rate, count)).1,
+            Call::Seek(position) => voice = seek(&voice, position).1,
+            Call::Play(count) => see_play(seen, &mut voice, &lent, count),
+        }
+    }
+    if voice.fade > 0 {
+        seen.insert("fade at the end".to_string());
+    }
+}
+
+const EXPECTED: &str = "T 0, T 1, T 2, T 3, \
+    fade 0 to 1, fade 0 to 2, fade 0 to 3, fade 1 to 2, \
+    fade 1 to 0, fade 2 to 0, fade 2 to 1, fade 3 to 0, fade 3 to 2, \
+    rate change inside a fade, fade at the end, glide, glide that ends, \
+    position 2^60, output -32768, output 32767, \
+    open: 0, jump: 0, glide: 0, seek: 0, play: 0, play of no outputs, \
+    open: 10, jump: 10, jump to NaN, glide: 10, glide: 11, seek: 12, \
+    jump: 15, glide: 15, seek: 15, play: 15";
+
+#[test]
+fn the_drives_show_much() {
+    let mut seen = Seen::new();
+    for seed in SEEDS {
+        see_drive(&mut seen, &small_drive(seed));
+    }
+    for what in EXPECTED.split(", ") {
+        assert!(seen.contains(what), "not seen: {what}");
+    }
+}
