@@ -1,13 +1,14 @@
 -- The laws of `wordAt`, `part`, `tabulate` and `overwrite`, and of a loop that writes a list word by word. Assumes nothing.
-use mathlib.Core.Path.{_≡_, refl, ap, _∙_}
-use mathlib.Core.List.{List, _++_, append-nil}
-use Prim.Native.Nat.{ℕ, zero, suc, _+_, _≤_, _<_}
+use mathlib.Core.Path.{_≡_, refl, sym, ap, ap₂, _∙_}
+use mathlib.Core.List.{List, [], _∷_, _++_, append-nil, append-assoc}
+use Prim.Native.Nat.{ℕ, zero, suc, _+_, _-_, _≤_, _<_}
 use native.Mathlib.Nat.{le-of-suc-le-suc, not-suc-le-zero, le-refl}
+use native.Mathlib.Decide.{ℕ-discrete}
 use native.Mathlib.Numerals.{add-one}
 use native.Mathlib.Omega.{arith}
 use lib.IntN.{ℤ, pos, negsuc, natAbs}
 use lib.ListN.{length, getD, take, drop, set, length-take, length-drop, List·getD-eq-default}
-use lib.Seq.{drop-length, getD-take, getD-drop, take-all, take-append-le, take-take, paste, paste-zero, paste-suc}
+use lib.Seq.{drop-length, length-take-le, take-suc, set-at, getD-set-same, getD-set-other, getD-take, getD-drop, take-all, take-append-le, take-take, paste, paste-zero, paste-suc, drop-paste}
 use Rattle.arith.specs.Lists.{at, wordAt, part, tabulate, overwrite}
 
 -- ---- a part
@@ -42,6 +43,11 @@ getD-tabulate zero f k d h = absurd (not-suc-le-zero h)
 getD-tabulate (suc n) f zero d h = refl
 getD-tabulate (suc n) f (suc k) d h = getD-tabulate n (λ i. f (suc i)) k d (le-of-suc-le-suc h)
 
+pub tabulate-ext : {A : Type 0} (n : ℕ) {f g : ℕ → A} → ((k : ℕ) → k < n → f k ≡ g k) → tabulate n f ≡ tabulate n g
+unfolding tabulate
+tabulate-ext zero e = refl
+tabulate-ext (suc n) e = ap₂ _∷_ (e 0 (omega arith)) (tabulate-ext n (λ k h. e (suc k) (omega arith)))
+
 -- ---- a loop that writes the list ys over xs from place a on, word by word: `paste xs a ys n` is xs after n words
 
 module _ {A : Type 0} (xs : List A) (a : ℕ) (ys : List A) where
@@ -51,8 +57,47 @@ module _ {A : Type 0} (xs : List A) (a : ℕ) (ys : List A) where
   pub paste-more : (n : ℕ) (d v : A) → a + n < length xs → n < length ys → v ≡ getD ys n d → set (paste xs a ys n) (a + n) v ≡ paste xs a ys (n + 1)
   paste-more n d v h l e = rw (add-one, e) (paste-suc xs a ys n d h l)
 
+  -- behind what is written, each word is as it was
+  pub paste-behind : (n i : ℕ) (d : A) → a ≤ length xs → n ≤ length ys → getD (paste xs a ys n) (a + n + i) d ≡ getD xs (a + n + i) d
+  paste-behind n i d h l = sym (getD-drop (a + n) (paste xs a ys n) i d) ∙ ap (λ zs. getD zs i d) (drop-paste xs a ys n h l) ∙ getD-drop (a + n) xs i d
+
   pub paste-all : (n : ℕ) → n ≡ length ys → paste xs a ys n ≡ overwrite xs a ys
   paste-all n e = rw e (ap (λ zs. take a xs ++ zs ++ drop (a + length ys) xs) (take-all (length ys) ys (le-refl (length ys))))
+
+-- ---- a loop that writes a list backwards: one word more in front of those that are written
+
+pub overwrite-front : {A : Type 0} (xs : List A) (a : ℕ) (ys : List A) (v : A) → a < length xs → set (overwrite xs (suc a) ys) a v ≡ overwrite xs a (v ∷ ys)
+overwrite-front {A} xs a ys v h =
+    let e : suc a + length ys ≡ a + suc (length ys) = omega arith in
+    let front : length (take a xs) ≡ a = length-take-le a xs (omega arith) in
+    let rest : List A = drop (suc a + length ys) xs in
+    ap (λ zs. set (zs ++ ys ++ rest) a v) (take-suc xs a v h)
+    ∙ ap (λ zs. set (zs ++ rest) a v) (append-assoc (take a xs) (getD xs a v ∷ []) ys)
+    ∙ ap (λ zs. set zs a v) (append-assoc (take a xs) (getD xs a v ∷ ys) rest)
+    ∙ set-at (take a xs) (getD xs a v) (ys ++ rest) v a front
+    ∙ sym (append-assoc (take a xs) (v ∷ ys) rest)
+    ∙ ap (λ n. take a xs ++ (v ∷ ys) ++ drop n xs) e
+
+pub overwrite-none : {A : Type 0} (xs : List A) (a : ℕ) → xs ≡ overwrite xs a []
+overwrite-none xs a = paste-zero xs a []
+
+-- the list so far, of f (n − 1), .., f 0
+pub tabulate-back : {A : Type 0} (n : ℕ) (f : ℕ → A) → tabulate (n + 1) (λ j. f (n + 1 - suc j)) ≡ f n ∷ tabulate n (λ j. f (n - suc j))
+unfolding tabulate
+tabulate-back n f =
+    let first : n + 1 - suc 0 ≡ n = omega arith in
+    ap (λ m. tabulate m (λ j. f (n + 1 - suc j))) (add-one n)
+    ∙ ap₂ _∷_ (ap f first) (tabulate-ext n (λ j h. ap f (omega arith)))
+
+-- ---- a loop that stores f k at k
+
+pub filled-more : {A : Type 0} (d : A) (f : ℕ → A) (xs : List A) (k : ℕ) {v : A} → k < length xs → ((j : ℕ) → j < k → getD xs j d ≡ f j) → v ≡ f k
+    → (j : ℕ) → j < k + 1 → getD (set xs k v) j d ≡ f j
+filled-more d f xs k {v} h below e j l = go (ℕ-discrete j k)
+  where
+    go : Dec (j ≡ k) → getD (set xs k v) j d ≡ f j
+    go (yes p) = rw p (getD-set-same xs k v d h ∙ e)
+    go (no n) = getD-set-other xs k j v d n ∙ below j (omega arith)
 
 -- ---- what lies before the place that is written stays
 

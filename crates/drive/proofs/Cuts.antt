@@ -1,6 +1,6 @@
 -- The last sentence of demand 3: how a list cuts its samples into plays changes neither the samples nor the voice at its end. For every
 -- voice, book, store and S; assumes nothing.
-use mathlib.Core.Path.{_≡_, refl, ap, ap₂, _∙_}
+use mathlib.Core.Path.{_≡_, refl, ap, _∙_}
 use mathlib.Core.List.{List, [], _∷_, _++_, append-assoc, append-nil}
 use Prim.Native.Nat.{ℕ, zero, suc, _+_, _-_}
 use native.Mathlib.Nat.{add-zero, add-suc, suc-add, add-assoc, zero-add}
@@ -10,18 +10,15 @@ use borrow.Author.Tests.{ne-eqb}
 use lib.IntN.{ℤ}
 use lib.ListN.{length, length-append}
 use Rattle.arith.specs.Lists.{tabulate}
+use Rattle.arith.proofs.Lists.{tabulate-ext}
 use Rattle.player.specs.declared.Voice.{Voice}
 use Rattle.player.specs.Outputs.{output, nextVoice, voiceAfter, outputs}
 use Rattle.player.proofs.Blocks.{length-outputs}
+use Rattle.player.proofs.Filled.{voiceAfter-+}
 use Rattle.drive.specs.Lists.{Call, order, seek, play, callNumber, callVoice, callSamples, endVoice, handedOut, Mark, isPlay, marks}
 use Rattle.drive.proofs.Calls.{refused-voice, refused-samples, played-voice, played-samples, ordered-samples, sought-samples}
 
 -- ---- a list made by a rule, in two parts
-
-tabulate-ext : {A : Type 0} (n : ℕ) {f g : ℕ → A} → ((k : ℕ) → f k ≡ g k) → tabulate n f ≡ tabulate n g
-unfolding tabulate
-tabulate-ext zero e = refl
-tabulate-ext (suc n) e = ap₂ _∷_ (e 0) (tabulate-ext n (λ k. e (suc k)))
 
 tabulate-+ : {A : Type 0} (m n : ℕ) (f : ℕ → A) → tabulate (m + n) f ≡ tabulate m f ++ tabulate n (λ k. f (m + k))
 unfolding tabulate
@@ -40,17 +37,12 @@ heardAfter xs h = (xs ++ h .0, h .1)
 module _ (b store : List ℤ) (S : ℕ) where
   -- ---- outputs one after another
 
-  pub voiceAfter-+ : (v : Voice) (m n : ℕ) → voiceAfter b store S v (m + n) ≡ voiceAfter b store S (voiceAfter b store S v m) n
-  unfolding voiceAfter
-  voiceAfter-+ v m zero = rw add-zero
-  voiceAfter-+ v m (suc n) = rw add-suc (ap (nextVoice b store S) (voiceAfter-+ v m n))
-
   pub outputs-+ : (v : Voice) (m n : ℕ) → outputs b store S v (m + n) ≡ outputs b store S v m ++ outputs b store S (voiceAfter b store S v m) n
   unfolding outputs
-  outputs-+ v m n = tabulate-+ m n (λ k. output b (voiceAfter b store S v (suc k) .history)) ∙ ap (λ zs. outputs b store S v m ++ zs) (tabulate-ext n later)
+  outputs-+ v m n = tabulate-+ m n (λ k. output b (voiceAfter b store S v (suc k) .history)) ∙ ap (λ zs. outputs b store S v m ++ zs) (tabulate-ext n (λ k h. later k))
     where
       later : (k : ℕ) → output b (voiceAfter b store S v (suc (m + k)) .history) ≡ output b (voiceAfter b store S (voiceAfter b store S v m) (suc k) .history)
-      later k = rw (← add-suc, voiceAfter-+)
+      later k = rw (← add-suc, voiceAfter-+ b store S)
 
   -- ---- what a list's first call does: it makes k outputs and has no mark, or it hands out nothing and has one
 
@@ -108,7 +100,7 @@ module _ (b store : List ℤ) (S : ℕ) where
     where
       go : Does (voiceAfter b store S v k) c → ((v : Voice) (n k : ℕ) → Replayed v n k calls) → Replayed v n k (c ∷ calls)
       go (makes j same-voice same-samples unmarked) rest =
-          rw (unmarked (n + k) calls, same-voice, same-samples, ← voiceAfter-+ v k j, ← append-assoc, ← outputs-+ v k j)
+          rw (unmarked (n + k) calls, same-voice, same-samples, ← voiceAfter-+ b store S v k j, ← append-assoc, ← outputs-+ v k j)
           (simp (length-append, length-outputs b store S, add-assoc) (simp add-assoc at (rest v n (k + j))))
       go (acts none marked) rest =
           let u = callVoice b store S (voiceAfter b store S v k) c in

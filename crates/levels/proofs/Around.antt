@@ -48,12 +48,14 @@ module _ (h level : List ℤ) (centre : ℕ) where
   around-one = let e : centre + 0 ≡ centre = omega arith in ap (λ i. at h 0 *ℤ at level i) e
 
   -- x and y are the words k before and k after
-  pub around-more : (k : ℕ) → 1 ≤ k → {x y : ℤ} → x ≡ wordAt level (pos centre -ℤ pos k) → y ≡ wordAt level (pos centre +ℤ pos k) → around (k + 1) ≡ around k +ℤ at h k *ℤ (x +ℤ y)
+  pub around-suc : (k : ℕ) → 1 ≤ k → {x y : ℤ} → x ≡ wordAt level (pos centre -ℤ pos k) → y ≡ wordAt level (pos centre +ℤ pos k) → around (suc k) ≡ around k +ℤ at h k *ℤ (x +ℤ y)
   unfolding sumAround
-  around-more zero l e f = absurd (omega arith)
-  around-more (suc k) l {x} {y} e f =
-      rw add-one
-      (ap (λ z. around (suc k) +ℤ z) (ap₂ (λ v w. at h (suc k) *ℤ v +ℤ at h (suc k) *ℤ w) (sym e) (sym f) ∙ sym (*ℤ-+ℤ (at h (suc k)) x y)))
+  around-suc zero l e f = absurd (omega arith)
+  around-suc (suc k) l {x} {y} e f =
+      ap (λ z. around (suc k) +ℤ z) (ap₂ (λ v w. at h (suc k) *ℤ v +ℤ at h (suc k) *ℤ w) (sym e) (sym f) ∙ sym (*ℤ-+ℤ (at h (suc k)) x y))
+
+  pub around-more : (k : ℕ) → 1 ≤ k → {x y : ℤ} → x ≡ wordAt level (pos centre -ℤ pos k) → y ≡ wordAt level (pos centre +ℤ pos k) → around (k + 1) ≡ around k +ℤ at h k *ℤ (x +ℤ y)
+  around-more k l e f = rw add-one (around-suc k l e f)
 
   module _ (small : tapSum h ≤ 32768) (c : ℕ) (bound : (k : ℕ) → natAbs (at level k) ≤ c) where
     pub around-bound : (k : ℕ) → k ≤ length h → natAbs (around k) ≤ 32768 * c

@@ -22,6 +22,10 @@ pub halfLength-inside : (n k : ℕ) → k < halfLength n → 2 * k < n
 unfolding halfLength
 halfLength-inside n k h = omega arith
 
+pub halfLength-holds : (n k : ℕ) → 2 * k < n → k < halfLength n
+unfolding halfLength
+halfLength-holds n k h = omega arith
+
 pub levelLength-≤ : (S j : ℕ) → levelLength S j ≤ S
 unfolding levelLength
 levelLength-≤ S zero = omega arith

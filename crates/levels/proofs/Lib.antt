@@ -1,4 +1,5 @@
 pub mod Lengths
 pub mod Around
 pub mod Laws
+pub mod GroupSums
 pub mod Fitting

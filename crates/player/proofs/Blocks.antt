@@ -49,7 +49,7 @@ outputSum-around b h g a e =
 
 -- ---- what a point reads, of a store that has room for the levels up to the voice's T
 
-start-mono : (S : ℕ) {l T : ℕ} → l ≤ T → levelStart S (l + 1) ≤ levelStart S (T + 1)
+pub start-mono : (S : ℕ) {l T : ℕ} → l ≤ T → levelStart S (l + 1) ≤ levelStart S (T + 1)
 unfolding storeLength
 start-mono S {l} {T} h = rw (add-one l, add-one T) (storeLength-mono S h)
 
@@ -85,7 +85,7 @@ words-within bound h w k = go (decLt k 81)
 
 module _ (b store : List ℤ) (S : ℕ) where
   -- a sound control's point
-  point-small : Accepted b → {c : Control} → Sound (sizesOf b .fade) c → natAbs (point b store S (pointPlan c)) ≤ 2 ^ 29
+  pub point-small : Accepted b → {c : Control} → Sound (sizesOf b .fade) c → natAbs (point b store S (pointPlan c)) ≤ 2 ^ 29
   point-small a {c} s = point-bound b a store S (pointPlan c) (omega (arith, plan-old s, s .top-high)) (omega (arith, plan-new s, s .top-high)) (plan-step s)
 
   next-small : Accepted b → (v : Voice) → Sound (sizesOf b .fade) (v .control) → Within (2 ^ 29) (v .history)
@@ -116,14 +116,10 @@ module _ (b store : List ℤ) (S : ℕ) (v : Voice) where
   after-ready n e f s room = rw (e, f, after-top n) (after-sound s n, room)
 
   module _ (a : Accepted b) (s : Sound (sizesOf b .fade) (v .control)) (w : Within (2 ^ 29) (v .history)) where
-    after-within : (n : ℕ) → Within (2 ^ 29) (voiceAfter b store S v n .history)
+    pub after-within : (n : ℕ) → Within (2 ^ 29) (voiceAfter b store S v n .history)
     unfolding voiceAfter
     after-within zero = w
     after-within (suc n) = λ k l. next-small b store S a (voiceAfter b store S v n) (after-sound s n) (after-within n) k
-
-    pub after-small : (n k : ℕ) → natAbs (at (voiceAfter b store S v (suc n) .history) k) ≤ 2 ^ 29
-    unfolding voiceAfter
-    after-small n k = next-small b store S a (voiceAfter b store S v n) (after-sound s n) (after-within n) k
 
   pub length-outputs : (n : ℕ) → length (outputs b store S v n) ≡ n
   unfolding outputs

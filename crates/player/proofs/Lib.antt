@@ -3,7 +3,15 @@ pub mod Sound
 pub mod Kept
 pub mod Values
 pub mod Histories
+pub mod Steps
 pub mod Windows
+pub mod Staged
 pub mod Mix
 pub mod Split
 pub mod Blocks
+pub mod RunPoints
+pub mod Steady
+pub mod Along
+pub mod Filled
+pub mod Written
+pub mod Lines

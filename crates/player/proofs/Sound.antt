@@ -101,10 +101,6 @@ module _ (F n bound : ℕ) (c : Control) (h : List ℤ) (e : playStateNumber F c
   pub history-of : Within bound h
   history-of = history-right bound h (condition-fails 16 _ (none-second (refuse 16 (positionWrong (c .position))) _ position-on))
 
-  pub count-of : n ≤ 1048576
-  unfolding outputCountWrong
-  count-of = ltb-false 1048576 n (condition-fails 10 _ (none-second (lateNumber c bound h) _ late-on))
-
 -- ---- the numbers of a sound control, over a history within its bound
 
 module _ {F : ℕ} {c : Control} (s : Sound F c) where

@@ -142,12 +142,6 @@ module _ (b : List ℤ) (a : Accepted b) (l P : ℕ) where
 
 -- ---- a value is linear in the words
 
-pub valueSum-ext : (b : List ℤ) {w w′ : ℤ → ℤ} (l P : ℕ) → ((i : ℤ) → w i ≡ w′ i) → valueSum b w l P ≡ valueSum b w′ l P
-unfolding valueSum
-valueSum-ext b l P e =
-    let N = sizesOf b .taps in
-    sum-ext N (λ i m. ap (λ x. x *ℤ coefficient b l P (N - suc i)) (e (pos (P / unit l + suc i) -ℤ pos (N / 2))))
-
 pub valueSum-linear : (b : List ℤ) (c d : ℤ) (w w′ : ℤ → ℤ) (l P : ℕ) → c *ℤ valueSum b w l P -ℤ d *ℤ valueSum b w′ l P ≡ valueSum b (λ i. c *ℤ w i -ℤ d *ℤ w′ i) l P
 unfolding valueSum
 valueSum-linear b c d w w′ l P =

@@ -1,11 +1,14 @@
 // The driving-tone player. A voice goes from state to state by `Voice::open`, `order`, `seek` and `play`.
 
 mod calls; // open, order, seek and play
+mod decimation; // outputs from a line of points
 mod moves; // what moves a voice: glide, fade, position
 mod outputs; // histories, outputs and blocks of them
 mod points; // level values and points
 mod rate; // rates as f32
 mod refusals; // the numbers of the calls
+mod runs; // runs of outputs: positions and points
+mod window; // level values at a run of positions
 
 // The opening card: a rate, and the top level T.
 pub struct Card {

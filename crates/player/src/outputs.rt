@@ -1,106 +1,82 @@
-// Histories, outputs and blocks of them.
+// Blocks of outputs: run after run along a line of points.
 
 ghost use mathlib.Core.Path.{_≡_};
-ghost use Prim.Native.Nat.{ℕ, _+_, _^_, _≤_, _<_};
-ghost use lib.IntN.{pos, negsuc, natAbs};
-ghost use lib.ListN.{length, getD};
-ghost use Rattle.arith.specs.Lists.{at};
-ghost use Rattle.book.specs.Book.{sizesOf, decimationTaps};
+ghost use Prim.Native.Nat.{ℕ, _+_, _^_, _≤_, _<_, min};
+ghost use lib.IntN.{natAbs};
+ghost use lib.ListN.{length};
+ghost use Rattle.arith.specs.Lists.{at, part};
+ghost use Rattle.book.specs.Book.{sizesOf};
 ghost use Rattle.book.specs.Check.{bookNumber};
 ghost use Rattle.levels.specs.Sizes.{levelStart};
-ghost use Rattle.player.specs.Points.{limit};
-ghost use Rattle.player.specs.Outputs.{push, output, nextVoice, voiceAfter, outputs};
+ghost use Rattle.player.specs.Outputs.{voiceAfter, outputs};
 ghost use Rattle.player.specs.Sound.{Sound};
+ghost use Rattle.player.specs.Inner.{lineOf};
 use crate::Voice;
-use crate::moves::glide_moved;
-use crate::moves::point_moved;
-use crate::moves::point_plan;
-use crate::points::point_of;
+use crate::decimation::write_outputs;
+use crate::runs::next_points;
 
-// The history after two more points: the newest in front, the oldest two out.
-fn pushed(history: [i32; 81], first: i32, second: i32) -> [i32; 81]
-    ensures { λ r. ⌜ r ≡ push second (push first history) ⌝ }
+// The points of a history, widened to 64 bits.
+fn widened(history: [i32; 81]) -> [i64; 81]
+    ensures { λ r. ⌜ r ≡ history ⌝ }
 {
-    let mut next = [0i32; 81];
-    next[0] = second;
-    next[1] = first;
-    let mut k = 2;
+    let mut points = [0i64; 81];
+    let mut k = 0;
     while k < 81 {
-        next[k] = history[k - 2];
+        points[k] = history[k] as i64;
         k += 1;
     }
-    next
+    points
 }
 
-// Limited to 16 bits.
-fn limited_sample(x: i64) -> i16
-    ensures { λ r. ⌜ r ≡ limit (negsuc 32767) (pos 32767) x ⌝ }
+// The same points, narrowed to 32 bits again.
+fn narrowed(points: [i64; 81]) -> [i32; 81]
+    requires { ⌜ ((k : ℕ) → natAbs (at points k) ≤ 2 ^ 29) ⌝ }
+    ensures { λ r. ⌜ r ≡ points ⌝ }
 {
-    if x < -32768 {
-        return -32768;
+    let mut history = [0i32; 81];
+    let mut k = 0;
+    while k < 81 {
+        history[k] = points[k] as i32;
+        k += 1;
     }
-    if 32767 < x {
-        return 32767;
-    }
-    x as i16
+    history
 }
 
-// The output of a history; `taps` are the book's decimation taps.
-fn output_of(book: &[i32], taps: &[i32], history: &[i32]) -> i16
-    requires { ⌜ (bookNumber (now book) ≡ 0) × (now taps ≡ decimationTaps (now book)) × (length (now history) ≡ 81) ⌝ }
-    requires { ⌜ ((k : ℕ) → natAbs (at (now history) k) ≤ 2 ^ 29) ⌝ }
-    ensures { λ r. ⌜ r ≡ output (now (book .entry)) (now (history .entry)) ⌝ }
+// The line before a run.
+fn line_of(points: [i64; 81]) -> [i64; 209]
+    ensures { λ r. ⌜ r ≡ lineOf points ⌝ }
 {
-    let centre = taps.len() - 1;
-    limited_sample(arith::near(levels::halving::centred_sum(history, taps, centre), 4194304))
+    let mut line = [0i64; 209];
+    let mut k = 0;
+    while k < 81 {
+        line[128 + k] = points[k];
+        k += 1;
+    }
+    line
 }
 
-// The voice after an output.
-fn next_voice(
-    v: Voice,
-    book: &[i32],
-    phases: usize,
-    taps: usize,
-    fade: u32,
-    store: &[i32],
-    starts: &[usize; 6],
-    samples: usize,
-) -> Voice
-    requires { ⌜ (bookNumber (now book) ≡ 0) × (phases ≡ sizesOf (now book) .phases) × (taps ≡ sizesOf (now book) .taps) × (fade ≡ sizesOf (now book) .fade) ⌝ }
-    requires { ⌜ (samples ≤ 1048576) × ((j : ℕ) → j < 6 → getD (now starts) j 0 ≡ levelStart samples j) ⌝ }
-    requires { ⌜ Sound fade (v .control) × (levelStart samples (v .control .top + 1) ≤ length (now store)) ⌝ }
-    ensures { λ r. ⌜ r ≡ nextVoice (now (book .entry)) (now (store .entry)) samples v ⌝ }
+// The 81 points from place `start` on.
+fn newest(line: [i64; 209], start: usize) -> [i64; 81]
+    requires { ⌜ start ≤ 128 ⌝ }
+    ensures { λ r. ⌜ r ≡ part line start 81 ⌝ }
 {
-    let control = v.control;
-    let history = v.history;
-    let one = glide_moved(control);
-    let first = point_of(
-        book,
-        phases,
-        taps,
-        fade,
-        store,
-        starts,
-        samples,
-        point_plan(one),
-    );
-    let two = point_moved(one, fade);
-    let second = point_of(
-        book,
-        phases,
-        taps,
-        fade,
-        store,
-        starts,
-        samples,
-        point_plan(two),
-    );
-    let last = point_moved(two, fade);
-    let points = pushed(history, first, second);
-    Voice {
-        control: last,
-        history: points,
+    let mut points = [0i64; 81];
+    let mut k = 0;
+    while k < 81 {
+        points[k] = line[start + k];
+        k += 1;
     }
+    points
+}
+
+// How many of `left` outputs the next run may make.
+fn run_length(left: usize) -> usize
+    ensures { λ r. ⌜ r ≡ min 64 left ⌝ }
+{
+    if left < 64 {
+        return left;
+    }
+    64
 }
 
 // Fills the output slice, and hands back the voice after it.
@@ -116,13 +92,32 @@ pub fn fill(v: Voice, book: &[i32], store: &[i32], samples: usize, out: &mut [i1
     let fade = s.fade as u32;
     let starts = levels::sizes::level_starts(samples);
     let decimation = book::decimation_taps(book);
-    let mut voice = v;
+    let history = v.history;
+    let mut control = v.control;
+    let mut line = line_of(widened(history));
+    let mut positions = [0u64; 128];
     let mut i = 0;
     while i < out.len() {
-        voice = next_voice(voice, book, phases, taps, fade, store, &starts, samples);
-        let x = output_of(book, decimation, &voice.history);
-        out[i] = x;
-        i += 1;
+        let count = run_length(out.len() - i);
+        let r = next_points(
+            &mut line,
+            &mut positions,
+            control,
+            count,
+            book,
+            phases,
+            taps,
+            fade,
+            store,
+            &starts,
+            samples,
+        );
+        let made = r.made;
+        write_outputs(book, decimation, &line, made, i, out);
+        line = line_of(newest(line, 128 - 2 * made));
+        control = r.control;
+        i += made;
     }
-    voice
+    let history = narrowed(newest(line, 128));
+    Voice { control, history }
 }

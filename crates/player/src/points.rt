@@ -14,13 +14,13 @@ ghost use Rattle.player.specs.Inner.{windowSum, restOf};
 use crate::Plan;
 
 // The sums of a level's words times impulses, and times differences.
-struct Sums {
-    impulses: i64,
-    differences: i64,
+pub struct Sums {
+    pub impulses: i64,
+    pub differences: i64,
 }
 
 // A word, limited to ±bound.
-fn limited(x: i32, bound: i32) -> i64
+pub fn limited(x: i32, bound: i32) -> i64
     requires { ⌜ (natAbs bound ≤ 2 ^ 27) × (bound ≡ pos (natAbs bound)) ⌝ }
     ensures { λ r. ⌜ r ≡ limit (negℤ bound) bound x ⌝ }
 {
@@ -34,7 +34,7 @@ fn limited(x: i32, bound: i32) -> i64
 }
 
 // Word `place` − `half`, or 0 outside the level.
-fn word_at(words: &[i32], place: u64, half: u64) -> i32
+pub fn word_at(words: &[i32], place: u64, half: u64) -> i32
     ensures { λ r. ⌜ r ≡ wordAt (now (words .entry)) (pos place -ℤ pos half) ⌝ }
 {
     if place < half {
@@ -112,7 +112,7 @@ fn edge_sums(
 }
 
 // 2^(23 + level): the limit of the level's words
-fn level_bound(level: u32) -> i32
+pub fn level_bound(level: u32) -> i32
     requires { ⌜ level ≤ 4 ⌝ }
     ensures { λ r. ⌜ r ≡ pos (2 ^ (23 + level)) ⌝ }
 {
@@ -127,7 +127,7 @@ fn level_bound(level: u32) -> i32
 
 // near((2^shift × impulses + offset × differences) / (2^14 × 2^shift)). The sum has up to 76 bits, so it is taken apart: the floor of
 // offset × differences / 2^shift, and whether that left a rest, which only says on which side of a half the number lies.
-fn mixed(impulses: i64, differences: i64, offset: u64, shift: u32) -> i64
+pub fn mixed(impulses: i64, differences: i64, offset: u64, shift: u32) -> i64
     requires { ⌜ (natAbs impulses ≤ 2 ^ 44) × (natAbs differences ≤ 2 ^ 45) × (offset < 2 ^ shift) × (28 ≤ shift) × (shift ≤ 32) ⌝ }
     ensures { λ r. ⌜ r ≡ near (pos (2 ^ shift) *ℤ impulses +ℤ pos offset *ℤ differences) (16384 * 2 ^ shift) ⌝ }
 {

@@ -1,16 +1,14 @@
 -- `levels::halving::centred_sum` meets its contract. The loop's invariant: the sum's bits are those of the sum over the taps below k. Assumes nothing.
-use mathlib.Core.Path.{_≡_, sym, ap}
-use mathlib.Core.List.{List}
-use Prim.Native.Nat.{ℕ, _+_, _-_, _≤_}
+use mathlib.Core.Path.{_≡_, sym, ap, _∙_}
+use Prim.Native.Nat.{ℕ, suc, _+_, _-_, _≤_}
+use native.Mathlib.Numerals.{add-one}
 use native.Mathlib.Omega.{arith}
-use lib.IntN.{ℤ, _+ℤ_, _*ℤ_}
+use lib.IntN.{ℤ}
 use lib.ListN.{length}
-use mir.Syntax.{w32, w64}
-use mir.Val.{SFits, ofZ}
-use mir.Facts.{sfits-widen}
-use Rattle.arith.specs.Lists.{at}
-use Rattle.arith.proofs.Bits.{reads}
-use Rattle.levels.proofs.Around.{before-inside, after-inside, around, around-one, around-more, around-fits, first-fits, word-fits, pair-fits, tap-fits, tapped-fits}
+use mir.Syntax.{w64}
+use mir.Val.{toZ, ofZ}
+use mir.ValLaws.{toZ-ofZ}
+use Rattle.levels.proofs.Around.{around, around-fits}
 use Rattle.levels.proofs.halving.centred_sum.Statement.{statement}
 use Rattle.levels.proofs.halving.centred_sum.Tie as tie
 
@@ -21,137 +19,78 @@ abbrev μ-loop : tie.MeasureT-loop
 μ-loop level taps centre sum₀ k₀ sum k = length taps - k
 
 module _ (s : tie.Start Inv-loop μ-loop) where
-  abbrev level : List ℤ
-  level = s .args .level .now
+  abbrev partial : ℕ → ℕ → ℤ
+  partial = around (s .args .taps .now) (s .args .level .now)
 
-  abbrev taps : List ℤ
-  taps = s .args .taps .now
+  -- k behind the word k before it, and k + 1 behind the word before that
+  one-centre : (k n : ℕ) → k ≤ s .args .centre → partial (s .args .centre - k + k) n ≡ partial (s .args .centre) n
+  one-centre k n l = let e : s .args .centre - k + k ≡ s .args .centre = omega arith in ap (λ z. partial z n) e
 
-  abbrev centre : ℕ
-  centre = s .args .centre
+  two-centre : (k n : ℕ) → k + 1 ≤ s .args .centre → partial (s .args .centre - k - 1 + (k + 1)) n ≡ partial (s .args .centre) n
+  two-centre k n l = let e : s .args .centre - k - 1 + (k + 1) ≡ s .args .centre = omega arith in ap (λ z. partial z n) e
 
-  word : (i : ℕ) → SFits w32 (at level i)
-  word i = word-fits (at level i) (s .pre .1 i)
+  read : {x : ℕ} (k : ℕ) → k ≤ length (s .args .taps .now) → x ≡ ofZ w64 (partial (s .args .centre) k) → toZ w64 x ≡ partial (s .args .centre) k
+  read k l e = ap (toZ w64) e ∙ toZ-ofZ w64 _ (around-fits (s .args .taps .now) (s .pre .0 .1) (s .args .level .now) (s .args .centre) (s .pre .1) k l)
 
-  partial : (k : ℕ) → k ≤ length taps → SFits w64 (around taps level centre k)
-  partial = around-fits taps (s .pre .0 .1) level centre (s .pre .1)
+-- after the first tap of a turn, and after the second
+one-is : (c : tie.After-with-tap Inv-loop μ-loop) → let s = c .before .before .before .before in c .with-tap .result ≡ partial s (s .args .centre) (c .before .before .loop .k + 1)
+one-is c =
+    let s = c .before .before .before .before in
+    let k = c .before .before .loop .k in
+    rw add-one (_∙_ {b = partial s (s .args .centre - k + k) (suc k)} (c .with-tap .ensures) (one-centre s k (suc k) (omega arith)))
 
-  first-tap : SFits w32 (at taps 0)
-  first-tap = tap-fits taps (s .pre .0 .1) 0 (s .pre .0 .0)
+two-is : (c : tie.After-with-tap2 Inv-loop μ-loop) → let s = c .before .before .before .before .before in c .with-tap2 .result ≡ partial s (s .args .centre) (c .before .before .before .loop .k + 2)
+two-is c =
+    let s = c .before .before .before .before .before in
+    let k = c .before .before .before .loop .k in
+    let e : suc (k + 1) ≡ k + 2 = omega arith in
+    _∙_ {b = partial s (s .args .centre - k - 1 + (k + 1)) (suc (k + 1))} (c .with-tap2 .ensures) (two-centre s k (suc (k + 1)) (omega arith)) ∙ ap (partial s (s .args .centre)) e
 
-  first : SFits w64 (at taps 0 *ℤ at level centre)
-  first = first-fits taps (s .pre .0 .1) level centre (s .pre .1) (s .pre .0 .0)
-
--- in a turn
-module _ (t : tie.In-loop Inv-loop μ-loop) where
-  abbrev s : tie.Start Inv-loop μ-loop
-  s = t .before .before .before .before
-
-  abbrev k : ℕ
-  k = t .before .loop .k
-
-  abbrev left : ℤ
-  left = at (level s) (centre s - k)
-
-  abbrev right : ℤ
-  right = at (level s) (centre s + k)
-
-  tap : SFits w32 (at (taps s) k)
-  tap = tap-fits (taps s) (s .pre .0 .1) k (t .loop-test .taken)
-
-  pair : SFits w64 (left +ℤ right)
-  pair = pair-fits left right (s .pre .1 (centre s - k)) (s .pre .1 (centre s + k))
-
-  product : SFits w64 (at (taps s) k *ℤ (left +ℤ right))
-  product = tapped-fits (taps s) (s .pre .0 .1) k (t .loop-test .taken) left right (s .pre .1 (centre s - k)) (s .pre .1 (centre s + k))
-
-  so-far : SFits w64 (around (taps s) (level s) (centre s) k)
-  so-far = partial s k (omega arith)
-
-  more : around (taps s) (level s) (centre s) (k + 1) ≡ around (taps s) (level s) (centre s) k +ℤ at (taps s) k *ℤ (left +ℤ right)
-  more =
-      around-more (taps s) (level s) (centre s) k (t .before .loop .inv .0) (sym (before-inside (level s) (centre s) k (omega arith)))
-      (sym (after-inside (level s) (centre s) k))
-
-  one-more : SFits w64 (around (taps s) (level s) (centre s) k +ℤ at (taps s) k *ℤ (left +ℤ right))
-  one-more = rw (← more) (partial s (k + 1) (omega arith))
-
-shared-slice-copy-out-sum : tie.Need-shared-slice-copy-out-sum Inv-loop μ-loop
-shared-slice-copy-out-sum c = omega arith
-
-cast-sum : tie.Need-cast-sum Inv-loop μ-loop
-cast-sum c = let f = first-tap (c .before) in simp (reads, f) (sfits-widen tt f)
-
-mul-sum : tie.Need-mul-sum Inv-loop μ-loop
-mul-sum c = omega arith
-
-shared-slice-copy-out-sum-2 : tie.Need-shared-slice-copy-out-sum-2 Inv-loop μ-loop
-shared-slice-copy-out-sum-2 c = omega arith
-
-cast-sum-2 : tie.Need-cast-sum-2 Inv-loop μ-loop
-cast-sum-2 c =
-    let s = c .before .before in
-    simp (reads, word s (centre s)) (sfits-widen tt (word s (centre s)))
-
-mul-sum-2 : tie.Need-mul-sum-2 Inv-loop μ-loop
-mul-sum-2 c = let s = c .before .before in simp (reads, first-tap s, word s (centre s)) (first s)
+first-product-requires : tie.Need-first-product-requires Inv-loop μ-loop
+first-product-requires c κs = ((c .pre .0 .0, c .pre .0 .1, omega arith), c .pre .1)
 
 loop-holds : tie.Need-loop-holds Inv-loop μ-loop
-loop-holds c =
-    let s = c .before .before in
-    (omega arith, omega arith, simp (reads, first-tap s, word s (centre s)) (ap (ofZ w64) (sym (around-one (taps s) (level s) (centre s)))))
+loop-holds c = (omega arith, c .before .pre .0 .0, ap (ofZ w64) (c .first-product .ensures))
 
-mul-sum-3 : tie.Need-mul-sum-3 Inv-loop μ-loop
-mul-sum-3 c = omega arith
+add-loop : tie.Need-add-loop Inv-loop μ-loop
+add-loop c = omega arith
 
-shared-slice-copy-out-sum-3 : tie.Need-shared-slice-copy-out-sum-3 Inv-loop μ-loop
-shared-slice-copy-out-sum-3 c = omega arith
+sub-with-tap : tie.Need-sub-with-tap Inv-loop μ-loop
+sub-with-tap c = omega arith
 
-cast-sum-3 : tie.Need-cast-sum-3 Inv-loop μ-loop
-cast-sum-3 c = let f = tap (c .before) in simp (reads, f) (sfits-widen tt f)
+add-with-tap : tie.Need-add-with-tap Inv-loop μ-loop
+add-with-tap c = omega arith
 
-sub-sum : tie.Need-sub-sum Inv-loop μ-loop
-sub-sum c = omega arith
+with-tap-requires : tie.Need-with-tap-requires Inv-loop μ-loop
+with-tap-requires c κs =
+    let s = c .before .before .before in
+    let l = c .before .loop in (
+      (s .pre .0 .1, l .inv .0, omega arith, omega arith, omega arith),
+      (s .pre .1, read s (l .k) (l .inv .1) (l .inv .2) ∙ sym (one-centre s (l .k) (l .k) (omega arith))),
+    )
 
-mul-sum-4 : tie.Need-mul-sum-4 Inv-loop μ-loop
-mul-sum-4 c = omega arith
+add-with-tap-2 : tie.Need-add-with-tap-2 Inv-loop μ-loop
+add-with-tap-2 c = omega arith
 
-shared-slice-copy-out-sum-4 : tie.Need-shared-slice-copy-out-sum-4 Inv-loop μ-loop
-shared-slice-copy-out-sum-4 c = omega arith
+sub-with-tap-2 : tie.Need-sub-with-tap-2 Inv-loop μ-loop
+sub-with-tap-2 c = omega arith
 
-cast-sum-4 : tie.Need-cast-sum-4 Inv-loop μ-loop
-cast-sum-4 c =
-    let t = c .before .before in
-    let f = word (s t) (centre (s t) - k t) in simp (reads, f) (sfits-widen tt f)
+sub-with-tap-3 : tie.Need-sub-with-tap-3 Inv-loop μ-loop
+sub-with-tap-3 c = omega arith
 
-add-sum : tie.Need-add-sum Inv-loop μ-loop
-add-sum c = omega arith
+add-with-tap-3 : tie.Need-add-with-tap-3 Inv-loop μ-loop
+add-with-tap-3 c = omega arith
 
-mul-sum-5 : tie.Need-mul-sum-5 Inv-loop μ-loop
-mul-sum-5 c = omega arith
+add-with-tap-4 : tie.Need-add-with-tap-4 Inv-loop μ-loop
+add-with-tap-4 c = omega arith
 
-shared-slice-copy-out-sum-5 : tie.Need-shared-slice-copy-out-sum-5 Inv-loop μ-loop
-shared-slice-copy-out-sum-5 c = omega arith
-
-cast-sum-5 : tie.Need-cast-sum-5 Inv-loop μ-loop
-cast-sum-5 c =
-    let t = c .before .before .before in
-    let f = word (s t) (centre (s t) + k t) in simp (reads, f) (sfits-widen tt f)
-
-add-sum-2 : tie.Need-add-sum-2 Inv-loop μ-loop
-add-sum-2 c =
-    let t = c .before .before .before in
-    simp (reads, word (s t) (centre (s t) - k t), word (s t) (centre (s t) + k t)) (pair t)
-
-mul-sum-6 : tie.Need-mul-sum-6 Inv-loop μ-loop
-mul-sum-6 c =
-    let t = c .before .before .before in
-    simp (reads, tap t, word (s t) (centre (s t) - k t), word (s t) (centre (s t) + k t), pair t) (product t)
-
-add-sum-3 : tie.Need-add-sum-3 Inv-loop μ-loop
-add-sum-3 c =
-    let t = c .before .before .before in
-    simp (t .before .loop .inv .2, reads, tap t, word (s t) (centre (s t) - k t), word (s t) (centre (s t) + k t), pair t, product t, so-far t) (one-more t)
+with-tap-requires-2 : tie.Need-with-tap-requires-2 Inv-loop μ-loop
+with-tap-requires-2 c κs =
+    let s = c .before .before .before .before in
+    let k = c .before .before .loop .k in (
+      (s .pre .0 .1, omega arith, omega arith, omega arith, omega arith),
+      (s .pre .1, toZ-ofZ w64 _ (record { sfits = c .with-tap .ok }) ∙ one-is c ∙ sym (two-centre s k (k + 1) (omega arith))),
+    )
 
 add-k : tie.Need-add-k Inv-loop μ-loop
 add-k c = omega arith
@@ -160,20 +99,37 @@ loop-less : tie.Need-loop-less Inv-loop μ-loop
 loop-less c = omega arith
 
 loop-again : tie.Need-loop-again Inv-loop μ-loop
-loop-again c =
-    let t = c .before .before .before in (
-      omega arith,
-      omega arith,
-      simp (t .before .loop .inv .2, reads, tap t, word (s t) (centre (s t) - k t), word (s t) (centre (s t) + k t), pair t, product t, so-far t)
-          (ap (ofZ w64) (sym (more t))),
+loop-again c = (omega arith, omega arith, ap (ofZ w64) (two-is c))
+
+sub-with-tap-4 : tie.Need-sub-with-tap-4 Inv-loop μ-loop
+sub-with-tap-4 c = omega arith
+
+add-with-tap-5 : tie.Need-add-with-tap-5 Inv-loop μ-loop
+add-with-tap-5 c = omega arith
+
+with-tap-requires-3 : tie.Need-with-tap-requires-3 Inv-loop μ-loop
+with-tap-requires-3 c κs =
+    let a = c .before .before in
+    let s = a .before .before in
+    let l = a .loop in (
+      (s .pre .0 .1, l .inv .0, omega arith, omega arith, omega arith),
+      (s .pre .1, read s (l .k) (l .inv .1) (l .inv .2) ∙ sym (one-centre s (l .k) (l .k) (omega arith))),
     )
 
 returns : tie.Need-returns Inv-loop μ-loop
 returns c =
-    let a = c .before in
-    let s = a .before .before .before in
-    let e : a .loop .k ≡ length (taps s) = omega arith in
-    simp (a .loop .inv .2, e, reads, partial s (length (taps s)) (omega arith))
+    let s = c .before .before .before .before .before in
+    let k = c .before .before .before .loop .k in
+    let e : suc k ≡ length (s .args .taps .now) = omega arith in
+    toZ-ofZ w64 _ (record { sfits = c .with-tap3 .ok }) ∙ _∙_ {b = partial s (s .args .centre - k + k) (suc k)} (c .with-tap3 .ensures) (one-centre s k (suc k) (omega arith))
+    ∙ ap (partial s (s .args .centre)) e
+
+returns-2 : tie.Need-returns-2 Inv-loop μ-loop
+returns-2 c =
+    let a = c .before .before in
+    let s = a .before .before in
+    let e : a .loop .k ≡ length (s .args .taps .now) = omega arith in
+    read s (a .loop .k) (a .loop .inv .1) (a .loop .inv .2) ∙ ap (partial s (s .args .centre)) e
 
 pub centred-sum-spec : {M : Type 1} → statement M
 centred-sum-spec =
@@ -181,28 +137,23 @@ centred-sum-spec =
     (tie.spec
     Inv-loop
     μ-loop
-    shared-slice-copy-out-sum
-    cast-sum
-    mul-sum
-    shared-slice-copy-out-sum-2
-    cast-sum-2
-    mul-sum-2
+    first-product-requires
     loop-holds
-    mul-sum-3
-    shared-slice-copy-out-sum-3
-    cast-sum-3
-    sub-sum
-    mul-sum-4
-    shared-slice-copy-out-sum-4
-    cast-sum-4
-    add-sum
-    mul-sum-5
-    shared-slice-copy-out-sum-5
-    cast-sum-5
-    add-sum-2
-    mul-sum-6
-    add-sum-3
+    add-loop
+    sub-with-tap
+    add-with-tap
+    with-tap-requires
+    add-with-tap-2
+    sub-with-tap-2
+    sub-with-tap-3
+    add-with-tap-3
+    add-with-tap-4
+    with-tap-requires-2
     add-k
     loop-less
     loop-again
-    returns)
+    sub-with-tap-4
+    add-with-tap-5
+    with-tap-requires-3
+    returns
+    returns-2)

@@ -11,7 +11,7 @@ use mir.Facts.{sfits-widen}
 use Rattle.arith.specs.Lists.{at}
 use Rattle.arith.proofs.Bits.{reads}
 use Rattle.arith.proofs.Lists.{wordAt-bound}
-use Rattle.levels.proofs.Around.{around, around-one, around-more, around-fits, first-fits, word-fits, pair-fits, tap-fits, tapped-fits}
+use Rattle.levels.proofs.Around.{around, around-more, around-fits, word-fits, pair-fits, tap-fits, tapped-fits}
 use Rattle.levels.proofs.halving.edge_sum.Statement.{statement}
 use Rattle.levels.proofs.halving.edge_sum.Tie as tie
 
@@ -31,22 +31,13 @@ module _ (s : tie.Start Inv-loop μ-loop) where
   abbrev centre : ℕ
   centre = s .args .centre
 
-  word : (i : ℕ) → SFits w32 (at level i)
-  word i = word-fits (at level i) (s .pre .1 i)
-
   partial : (k : ℕ) → k ≤ length taps → SFits w64 (around taps level centre k)
   partial = around-fits taps (s .pre .0 .2) level centre (s .pre .1)
-
-  first-tap : SFits w32 (at taps 0)
-  first-tap = tap-fits taps (s .pre .0 .2) 0 (s .pre .0 .0)
-
-  first : SFits w64 (at taps 0 *ℤ at level centre)
-  first = first-fits taps (s .pre .0 .2) level centre (s .pre .1) (s .pre .0 .0)
 
 -- in a turn
 module _ (t : tie.In-loop Inv-loop μ-loop) where
   abbrev s : tie.Start Inv-loop μ-loop
-  s = t .before .before .before .before
+  s = t .before .before .before
 
   abbrev k : ℕ
   k = t .before .loop .k
@@ -92,39 +83,20 @@ module _ (c : tie.After-word-after Inv-loop μ-loop) where
   one-more : SFits w64 (around (taps (s t)) (level (s t)) (centre (s t)) (k t) +ℤ at (taps (s t)) (k t) *ℤ (left +ℤ right))
   one-more = rw (← more) (partial (s t) (k t + 1) (omega arith))
 
-shared-slice-copy-out-sum : tie.Need-shared-slice-copy-out-sum Inv-loop μ-loop
-shared-slice-copy-out-sum c = omega arith
+first-product-requires : tie.Need-first-product-requires Inv-loop μ-loop
+first-product-requires c κs = ((c .pre .0 .0, c .pre .0 .2, c .pre .0 .3), c .pre .1)
 
-cast-sum : tie.Need-cast-sum Inv-loop μ-loop
-cast-sum c = let f = first-tap (c .before) in simp (reads, f) (sfits-widen tt f)
+loop-holds : tie.Need-loop-holds Inv-loop μ-loop
+loop-holds c = (omega arith, c .before .pre .0 .0, ap (ofZ w64) (c .first-product .ensures))
 
 mul-sum : tie.Need-mul-sum Inv-loop μ-loop
 mul-sum c = omega arith
 
-shared-slice-copy-out-sum-2 : tie.Need-shared-slice-copy-out-sum-2 Inv-loop μ-loop
-shared-slice-copy-out-sum-2 c = omega arith
+shared-slice-copy-out-sum : tie.Need-shared-slice-copy-out-sum Inv-loop μ-loop
+shared-slice-copy-out-sum c = omega arith
 
-cast-sum-2 : tie.Need-cast-sum-2 Inv-loop μ-loop
-cast-sum-2 c =
-    let s = c .before .before in
-    simp (reads, word s (centre s)) (sfits-widen tt (word s (centre s)))
-
-mul-sum-2 : tie.Need-mul-sum-2 Inv-loop μ-loop
-mul-sum-2 c = let s = c .before .before in simp (reads, first-tap s, word s (centre s)) (first s)
-
-loop-holds : tie.Need-loop-holds Inv-loop μ-loop
-loop-holds c =
-    let s = c .before .before in
-    (omega arith, omega arith, simp (reads, first-tap s, word s (centre s)) (ap (ofZ w64) (sym (around-one (taps s) (level s) (centre s)))))
-
-mul-sum-3 : tie.Need-mul-sum-3 Inv-loop μ-loop
-mul-sum-3 c = omega arith
-
-shared-slice-copy-out-sum-3 : tie.Need-shared-slice-copy-out-sum-3 Inv-loop μ-loop
-shared-slice-copy-out-sum-3 c = omega arith
-
-cast-sum-3 : tie.Need-cast-sum-3 Inv-loop μ-loop
-cast-sum-3 c = let f = tap (c .before) in simp (reads, f) (sfits-widen tt f)
+cast-sum : tie.Need-cast-sum Inv-loop μ-loop
+cast-sum c = let f = tap (c .before) in simp (reads, f) (sfits-widen tt f)
 
 word-before-requires : tie.Need-word-before-requires Inv-loop μ-loop
 word-before-requires c κs = omega arith
@@ -135,8 +107,8 @@ word-after-requires c κs = (omega arith, omega arith)
 add-sum : tie.Need-add-sum Inv-loop μ-loop
 add-sum c = simp (reads, left-fits c, right-fits c) (pair c)
 
-mul-sum-4 : tie.Need-mul-sum-4 Inv-loop μ-loop
-mul-sum-4 c = simp (reads, tap (t c), left-fits c, right-fits c, pair c) (product c)
+mul-sum-2 : tie.Need-mul-sum-2 Inv-loop μ-loop
+mul-sum-2 c = simp (reads, tap (t c), left-fits c, right-fits c, pair c) (product c)
 
 add-sum-2 : tie.Need-add-sum-2 Inv-loop μ-loop
 add-sum-2 c = simp (t c .before .loop .inv .2, reads, tap (t c), left-fits c, right-fits c, pair c, product c, so-far (t c)) (one-more c)
@@ -157,7 +129,7 @@ loop-again c = (
 returns : tie.Need-returns Inv-loop μ-loop
 returns c =
     let a = c .before in
-    let s = a .before .before .before in
+    let s = a .before .before in
     let e : a .loop .k ≡ length (taps s) = omega arith in
     simp (a .loop .inv .2, e, reads, partial s (length (taps s)) (omega arith))
 
@@ -167,20 +139,15 @@ edge-sum-spec =
     (tie.spec
     Inv-loop
     μ-loop
+    first-product-requires
+    loop-holds
+    mul-sum
     shared-slice-copy-out-sum
     cast-sum
-    mul-sum
-    shared-slice-copy-out-sum-2
-    cast-sum-2
-    mul-sum-2
-    loop-holds
-    mul-sum-3
-    shared-slice-copy-out-sum-3
-    cast-sum-3
     word-before-requires
     word-after-requires
     add-sum
-    mul-sum-4
+    mul-sum-2
     add-sum-2
     add-k
     loop-less

@@ -8,7 +8,8 @@ use lib.IntN.{ℤ, pos, _-ℤ_}
 use mir.Syntax.{w64}
 use mir.Val.{ofZ}
 use Rattle.arith.specs.Sum.{sum}
-use Rattle.player.proofs.Windows.{bound-small, limited-is, windowWord, windowTo, Turn, impulseFrom, differenceFrom, impulse-turn, difference-turn, impulses-all, differences-all}
+use Rattle.player.proofs.Steps.{impulseFrom, differenceFrom}
+use Rattle.player.proofs.Windows.{bound-small, limited-is, windowWord, windowTo, Turn, impulse-turn, difference-turn, impulses-all, differences-all}
 use Rattle.player.proofs.points.edge_sums.Statement.{statement}
 use Rattle.player.proofs.points.edge_sums.Tie as tie
 

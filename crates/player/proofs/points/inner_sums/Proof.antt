@@ -10,7 +10,8 @@ use mir.Val.{ofZ}
 use Rattle.arith.specs.Lists.{at, wordAt}
 use Rattle.arith.specs.Sum.{sum}
 use Rattle.levels.proofs.Around.{before-inside}
-use Rattle.player.proofs.Windows.{bound-small, limited-is, windowWord, windowTo, Turn, impulseFrom, differenceFrom, impulse-turn, difference-turn, impulses-all, differences-all}
+use Rattle.player.proofs.Steps.{impulseFrom, differenceFrom}
+use Rattle.player.proofs.Windows.{bound-small, limited-is, windowWord, windowTo, Turn, impulse-turn, difference-turn, impulses-all, differences-all}
 use Rattle.player.proofs.points.inner_sums.Statement.{statement}
 use Rattle.player.proofs.points.inner_sums.Tie as tie
 

@@ -1,36 +1,50 @@
--- `player::outputs::next_voice` meets its contract: the control stays sound on the way, so that each point's plan lies in range. Assumes nothing.
+-- `player::runs::one_output` meets its contract: the steps of one output, put together. Assumes nothing.
 use borrow.Author.Needs.{needs}
-use mathlib.Core.Path.{_≡_}
-use mathlib.Core.List.{List}
+use mathlib.Core.Path.{_≡_, refl, sym, ap, ap₂, _∙_}
+use mathlib.Core.List.{List, [], _∷_}
 use Prim.Native.Nat.{ℕ, _+_, _^_, _≤_, _<_}
 use native.Mathlib.Omega.{arith}
-use lib.IntN.{ℤ}
-use lib.ListN.{length}
+use lib.IntN.{ℤ, pos}
+use lib.ListN.{length, set, length-set}
+use lib.Seq.{paste}
 use mir.Syntax.{w32}
 use mir.Val.{SFits}
+use mir.Facts.{sfits-widen}
+use Rattle.arith.specs.Lists.{overwrite}
 use Rattle.arith.proofs.Bits.{reads}
+use Rattle.arith.proofs.Lists.{paste-none, paste-more, paste-all}
 use Rattle.book.specs.Book.{sizesOf}
 use Rattle.book.proofs.Accepted.{accepted, sizes-bounded}
 use Rattle.levels.specs.Sizes.{levelStart}
 use Rattle.player.specs.declared.Control.{Control}
 use Rattle.player.specs.declared.Plan.{Plan}
-use Rattle.player.specs.declared.Voice.{Voice}
-use Rattle.player.specs.Moves.{moveGlide, movePoint, moveOutput, pointPlan}
+use Rattle.player.specs.Moves.{moveGlide, pointPlan, movePoint, moveOutput}
 use Rattle.player.specs.Points.{point}
-use Rattle.player.specs.Outputs.{push, pushTwo, nextVoice}
 use Rattle.player.specs.Sound.{Sound}
+use Rattle.player.specs.Inner.{controlAfter, runPoints}
 use Rattle.player.proofs.Kept.{moveGlide-sound, moveGlide-top, movePoint-sound, movePoint-top}
 use Rattle.player.proofs.Blocks.{plan-read}
-use Rattle.player.proofs.outputs.next_voice.Statement.{statement}
-use Rattle.player.proofs.outputs.next_voice.Tie as tie
+use Rattle.player.proofs.runs.one_output.Statement.{statement}
+use Rattle.player.proofs.runs.one_output.Tie as tie
 
 -- the steps of the code, put together
-next-is : (b store : List ℤ) (S F : ℕ) (v : Voice) {one two last : Control} {plan₁ plan₂ : Plan} {x y : ℤ} {h : List ℤ} → F ≡ sizesOf b .fade
-    → one ≡ moveGlide (v .control) → plan₁ ≡ pointPlan one → x ≡ point b store S plan₁ → two ≡ movePoint F one → plan₂ ≡ pointPlan two
-    → y ≡ point b store S plan₂ → last ≡ movePoint F two → h ≡ push y (push x (v .history))
-    → _≡_ {A = Voice} (record { control = last; history = h }) (nextVoice b store S v)
-unfolding nextVoice moveOutput pushTwo
-next-is b store S F v f one plan₁ x two plan₂ y last h = cc
+control-is : (F : ℕ) (c : Control) {one two last : Control} → one ≡ moveGlide c → two ≡ movePoint F one → last ≡ movePoint F two → last ≡ controlAfter F c 1
+unfolding controlAfter moveOutput
+control-is F c one two last = cc
+
+points-are : (make : Plan → ℤ) (F : ℕ) (c : Control) {one two : Control} {plan₁ plan₂ : Plan} {x y : ℤ} → one ≡ moveGlide c → plan₁ ≡ pointPlan one → x ≡ make plan₁
+    → two ≡ movePoint F one → plan₂ ≡ pointPlan two → y ≡ make plan₂ → y ∷ x ∷ [] ≡ runPoints make F c 1
+unfolding runPoints controlAfter
+points-are make F c one plan₁ x two plan₂ y = cc
+
+-- two words, written one after the other
+two-written : (line : List ℤ) (x y : ℤ) → 128 ≤ length line → set (set line 126 y) 127 x ≡ overwrite line 126 (y ∷ x ∷ [])
+two-written line x y h =
+    let words = y ∷ x ∷ [] in
+    ap (λ l. set (set l 126 y) 127 x) (paste-none line 126 words)
+    ∙ ap (λ l. set l 127 x) (paste-more line 126 words 0 (pos 0) y (omega arith) (omega arith) refl)
+    ∙ paste-more line 126 words 1 (pos 0) x (omega arith) (omega arith) refl
+    ∙ paste-all line 126 words 2 refl
 
 module _ (s : tie.Start) where
   abbrev b : List ℤ
@@ -62,16 +76,16 @@ glide-moved-requires c κs = search needs
 
 module _ (c : tie.After-glide-moved) where
   abbrev start : tie.Start
-  start = c .before .before .before
+  start = c .before
 
   abbrev control : Control
-  control = start .args .v .control
+  control = start .args .c
 
   one-is : c .glide-moved .result ≡ moveGlide control
   one-is = c .glide-moved .ensures
 
   one-ready : Ready start (c .glide-moved .result)
-  one-ready = glide-ready start (start .pre .1 .1) one-is
+  one-ready = glide-ready start (start .pre .1 .1 .0, start .pre .1 .1 .1) one-is
 
 point-plan-requires : tie.Need-point-plan-requires
 point-plan-requires c κs = step-small (start c) (one-ready c)
@@ -108,29 +122,50 @@ point-of-requires-2 c κs =
     let r = two-ready t in
     (s .pre .0, (s .pre .1 .0, plan-read (r .0) (s .args .samples) (length (s .args .store .now)) (r .1) (c .point-plan2 .result) (c .point-plan2 .ensures)))
 
+-- ---- both together
+
+first-fits : (c : tie.After-point-of) → SFits w32 (c .point-of .result)
+first-fits c = record { sfits = c .point-of .ok }
+
+second-fits : (c : tie.After-point-of2) → SFits w32 (c .point-of2 .result)
+second-fits c = record { sfits = c .point-of2 .ok }
+
+cast-line : tie.Need-cast-line
+cast-line c = simp (reads, second-fits c) (sfits-widen tt (second-fits c))
+
+slice-set-from-line : tie.Need-slice-set-from-line
+slice-set-from-line c = search needs
+
+cast-line-2 : tie.Need-cast-line-2
+cast-line-2 c = let f = first-fits (c .before .before .before) in simp (reads, f) (sfits-widen tt f)
+
+slice-set-from-line-2 : tie.Need-slice-set-from-line-2
+slice-set-from-line-2 c = search needs
+
 point-moved-requires-2 : tie.Need-point-moved-requires-2
 point-moved-requires-2 c κs = let t = c .before .before in step-small (start (one t)) (two-ready t)
 
--- ---- both together
-
-pushed-requires : tie.Need-pushed-requires
-pushed-requires c κs = search needs
+same-length : tie.Need-same-length
+same-length c = search needs
 
 returns : tie.Need-returns
 returns c =
-    let m = c .before in
-    let p₂ = m .before in
+    let p₂ = c .before in
     let t = p₂ .before .before in
     let p₁ = t .before in
     let o = one t in
     let s = start o in
-    let first : SFits w32 (p₁ .point-of .result) = record { sfits = p₁ .point-of .ok } in
-    let second : SFits w32 (p₂ .point-of2 .result) = record { sfits = p₂ .point-of2 .ok } in
-    next-is (b s) (s .args .store .now) (s .args .samples) (F s) (s .args .v) (s .pre .0 .3) (one-is o) (p₁ .before .point-plan .ensures) (p₁ .point-of .ensures)
-    (two-is t) (p₂ .before .point-plan2 .ensures) (p₂ .point-of2 .ensures) (m .point-moved2 .ensures) (simp (reads, first, second) at (c .pushed .ensures))
+    let line = s .args .line .now in
+    let make = point (b s) (s .args .store .now) (s .args .samples) in
+    let written = two-written line (p₁ .point-of .result) (p₂ .point-of2 .result) (omega arith) in
+    let points = points-are make (F s) (s .args .c) (one-is o) (p₁ .before .point-plan .ensures) (p₁ .point-of .ensures) (two-is t) (p₂ .before .point-plan2 .ensures) (p₂ .point-of2 .ensures) in (
+      refl,
+      control-is (F s) (s .args .c) (one-is o) (two-is t) (c .point-moved2 .ensures),
+      simp (reads, first-fits p₁, second-fits p₂) (written ∙ ap (overwrite line 126) points),
+    )
 
-pub next-voice-spec : {M : Type 1} → statement M
-next-voice-spec =
+pub one-output-spec : {M : Type 1} → statement M
+one-output-spec =
     tie.close
     (tie.spec
     glide-moved-requires
@@ -139,6 +174,10 @@ next-voice-spec =
     point-moved-requires
     point-plan-requires-2
     point-of-requires-2
+    cast-line
+    slice-set-from-line
+    cast-line-2
+    slice-set-from-line-2
     point-moved-requires-2
-    pushed-requires
+    same-length
     returns)

@@ -1,0 +1,102 @@
+-- `player::outputs::line_of` meets its contract. The loop's invariant: the first k points are written. Assumes nothing.
+use mathlib.Core.Path.{_≡_, refl, ap, _∙_}
+use mathlib.Core.List.{List}
+use Prim.Native.Nat.{ℕ, _+_, _-_, _≤_, _<_}
+use native.Mathlib.Omega.{arith}
+use lib.IntN.{ℤ, pos}
+use lib.ListN.{length, set, replicate}
+use lib.Seq.{paste}
+use mir.Syntax.{w64}
+use mir.Val.{SFits}
+use Rattle.arith.specs.Lists.{at}
+use Rattle.arith.proofs.Bits.{reads}
+use Rattle.arith.proofs.Lists.{paste-none, paste-more, paste-all}
+use Rattle.player.specs.Inner.{lineOf}
+use Rattle.player.proofs.outputs.line_of.Statement.{statement}
+use Rattle.player.proofs.outputs.line_of.Tie as tie
+
+abbrev Inv-loop : tie.InvT-loop
+Inv-loop points line₀ k₀ line k = (k ≤ 81) × (line ≡ paste line₀ 128 points k)
+
+abbrev μ-loop : tie.MeasureT-loop
+μ-loop points line₀ k₀ line k = 81 - k
+
+module _ (s : tie.Start Inv-loop μ-loop) where
+  abbrev zeros : List ℤ
+  zeros = replicate 209 (pos 0)
+
+  abbrev words : List ℤ
+  words = s .args .t1
+
+  length-words : length words ≡ 81
+  length-words = omega arith
+
+-- the word that a turn writes
+module _ (c : tie.After-line Inv-loop μ-loop) where
+  abbrev a : tie.At-loop Inv-loop μ-loop
+  a = c .before .before
+
+  abbrev k : ℕ
+  k = a .loop .k
+
+  abbrev word : ℤ
+  word = at (a .before .args .t1) k
+
+  word-fits : SFits w64 word
+  word-fits = record { sfits = c .line .given }
+
+  written : set (a .loop .line) (128 + k) word ≡ paste (zeros (a .before)) 128 (words (a .before)) (k + 1)
+  written =
+      ap (λ l. set l (128 + k) word) (a .loop .inv .1)
+      ∙ paste-more (zeros (a .before)) 128 (words (a .before)) k (pos 0) word (omega arith) (omega (arith, length-words (a .before))) (refl)
+
+loop-holds : tie.Need-loop-holds Inv-loop μ-loop
+loop-holds c = (omega arith, paste-none (zeros c) 128 (words c))
+
+mul-line : tie.Need-mul-line Inv-loop μ-loop
+mul-line c = omega arith
+
+array-copy-out-line : tie.Need-array-copy-out-line Inv-loop μ-loop
+array-copy-out-line c = omega arith
+
+add-line : tie.Need-add-line Inv-loop μ-loop
+add-line c = omega arith
+
+mul-line-2 : tie.Need-mul-line-2 Inv-loop μ-loop
+mul-line-2 c = omega arith
+
+array-set-from-line : tie.Need-array-set-from-line Inv-loop μ-loop
+array-set-from-line c = omega arith
+
+add-k : tie.Need-add-k Inv-loop μ-loop
+add-k c = omega arith
+
+loop-less : tie.Need-loop-less Inv-loop μ-loop
+loop-less c = omega arith
+
+loop-again : tie.Need-loop-again Inv-loop μ-loop
+loop-again c = (omega arith, simp (reads, word-fits c) (written c))
+
+returns : tie.Need-returns Inv-loop μ-loop
+unfolding lineOf
+returns c =
+    let a = c .before in
+    let s = a .before in
+    a .loop .inv .1 ∙ paste-all (zeros s) 128 (words s) (a .loop .k) (omega (arith, length-words s))
+
+pub line-of-spec : {M : Type 1} → statement M
+line-of-spec =
+    tie.close
+    (tie.spec
+    Inv-loop
+    μ-loop
+    loop-holds
+    mul-line
+    array-copy-out-line
+    add-line
+    mul-line-2
+    array-set-from-line
+    add-k
+    loop-less
+    loop-again
+    returns)
