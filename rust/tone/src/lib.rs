@@ -7,8 +7,8 @@
 //! 01's number, and a refused call has changed nothing.
 //!
 //! A filter book is a slice of words: taps per phase N, phases M, level taps A,
-//! halving taps B, fade length F, then the impulses, their differences, the
-//! level taps and the halving taps. A store holds the octave levels of a
+//! decimation taps B, fade length F, then the impulses, their differences, the
+//! level taps and the decimation taps. A store holds the octave levels of a
 //! recording; [`build`] makes it. A [`Voice`] plays it.
 //!
 //! ```

@@ -3,6 +3,7 @@
 
 use std::ffi::OsStr;
 use std::fs;
+use std::io::ErrorKind;
 use std::path::{Path, PathBuf};
 use std::process::{Command, Output};
 use std::sync::atomic::{AtomicU32, Ordering};
@@ -135,12 +136,15 @@ pub fn example_book() -> Vec<i32> {
         .collect()
 }
 
-pub fn python(arguments: &[&OsStr]) -> Output {
-    Command::new("python3")
-        .arg("-B")
-        .args(arguments)
-        .output()
-        .unwrap()
+/// Runs a script; none where the machine has no python3, and says so.
+pub fn python(arguments: &[&OsStr]) -> Option<Output> {
+    match Command::new("python3").arg("-B").args(arguments).output() {
+        Err(error) if error.kind() == ErrorKind::NotFound => {
+            eprintln!("no python3: the script was not tried");
+            None
+        }
+        output => Some(output.unwrap()),
+    }
 }
 
 pub fn error_text(output: &Output) -> String {

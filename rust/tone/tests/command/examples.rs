@@ -10,15 +10,21 @@ use crate::bench::{
 };
 
 #[test]
-fn the_example_book_is_what_its_script_makes() {
-    let script = examples().join("book/make_book.py");
-    let made = python(&[script.as_os_str()]);
-    assert_eq!(error_text(&made), "");
-    let stored = fs::read(examples().join("book/book.txt")).unwrap();
-    assert!(made.stdout == stored, "make_book.py makes another book");
+fn the_example_book_is_accepted() {
     let book = example_book();
     assert_eq!(book[..5], [12, 64, 40, 20, 64]);
     tone::check(&book).unwrap();
+}
+
+#[test]
+fn the_example_book_is_what_its_script_makes() {
+    let script = examples().join("book/make_book.py");
+    let Some(made) = python(&[script.as_os_str()]) else {
+        return;
+    };
+    assert_eq!(error_text(&made), "");
+    let stored = fs::read(examples().join("book/book.txt")).unwrap();
+    assert!(made.stdout == stored, "make_book.py makes another book");
 }
 
 #[test]
@@ -41,7 +47,10 @@ fn the_example_book_keeps_a_steady_level() {
 #[test]
 fn the_example_book_has_its_figures() {
     let script = examples().join("book/make_book.py");
-    let figures = accepted(&python(&[script.as_os_str(), OsStr::new("--figures")]));
+    let Some(made) = python(&[script.as_os_str(), OsStr::new("--figures")]) else {
+        return;
+    };
+    let figures = accepted(&made);
     let worst = |line: &str| -> f64 {
         let (_, value) = line.split_once("at most ").unwrap();
         value.strip_suffix(" dB").unwrap().parse().unwrap()
@@ -66,9 +75,12 @@ fn the_example_flow() {
         folder.path("out.wav"),
     );
     let script = examples.join("book/make_hum.py");
-    accepted(&python(&[script.as_os_str(), hum.as_os_str()]));
+    let Some(made) = python(&[script.as_os_str(), hum.as_os_str()]) else {
+        return;
+    };
+    accepted(&made);
     let recording = fs::read(&hum).unwrap();
-    accepted(&python(&[script.as_os_str(), hum.as_os_str()]));
+    accepted(&python(&[script.as_os_str(), hum.as_os_str()]).unwrap());
     assert!(
         recording == fs::read(&hum).unwrap(),
         "make_hum.py makes another hum each time"

@@ -146,7 +146,9 @@ fn progress_is_for_terminals() {
     let files = [OsStr::new(&book), OsStr::new(&store)];
     let numbers = ["3", "1", "1"].map(OsStr::new);
     let rest = [OsStr::new(&drive), OsStr::new(&out)];
-    let shown = python(&[&arguments[..], &files, &numbers, &rest].concat());
+    let Some(shown) = python(&[&arguments[..], &files, &numbers, &rest].concat()) else {
+        return;
+    };
     let text = accepted(&shown);
     assert!(text.contains("\r\x1b[Ktone: 1 of 2 calls"), "{text:?}");
     assert!(text.contains("\r\x1b[K30 outputs"), "{text:?}");
