@@ -1,6 +1,6 @@
 -- The laws of `eqZ`, `within` and `every`. Assumes nothing.
 use mathlib.Core.Path.{_≡_, refl, sym, ap, ap₂, _∙_}
-use mathlib.Core.Bool.{Bool, true, false, not, _&&_, _||_}
+use mathlib.Core.Bool.{Bool, true, false, not, _&&_, _||_, cond}
 use Prim.Native.Nat.{ℕ, zero, suc, _+_, _*_, _≤_, _<_}
 use native.Mathlib.Nat.{add-zero, add-suc, not-suc-le-zero}
 use native.Mathlib.Numerals.{add-one}
@@ -29,6 +29,14 @@ pub &&-right : (s t : Bool) → s && t ≡ true → t ≡ true
 
 pub &&-both : {s t : Bool} → s ≡ true → t ≡ true → s && t ≡ true
 &&-both e f = rw (e, f)
+
+&&-true : (b : Bool) → b && true ≡ b
+&&-true true = refl
+&&-true false = refl
+
+&&-false : (b : Bool) → b && false ≡ false
+&&-false true = refl
+&&-false false = refl
 
 -- ---- neither of two conditions
 
@@ -89,6 +97,15 @@ pub every-more : (n : ℕ) (f : ℕ → Bool) → every n f ≡ true → f n ≡
 unfolding every
 every-more n f h e = rw add-one (&&-both h e)
 
+-- m counts the tests that fail, and r is one more or none by the next test
+pub every-count : (n : ℕ) (f : ℕ → Bool) (m : ℕ) {r : ℕ} {t : Bool} → eqb m 0 ≡ every n f → t ≡ f n → r ≡ cond t 0 1 → eqb (m + r) 0 ≡ every (n + 1) f
+unfolding every
+every-count n f m e d s = rw (s, d, add-one, ← e) (go (f n))
+  where
+    go : (t : Bool) → eqb (m + cond t 0 1) 0 ≡ eqb m 0 && t
+    go true = rw add-zero (sym (&&-true (eqb m 0)))
+    go false = ne-eqb (m + 1) 0 (λ d. omega arith) ∙ sym (&&-false (eqb m 0))
+
 pub every-all : (n : ℕ) (f : ℕ → Bool) → ((k : ℕ) → k < n → f k ≡ true) → every n f ≡ true
 unfolding every
 every-all zero f h = refl
@@ -122,11 +139,7 @@ every-ext (suc n) e = ap₂ _&&_ (every-ext n (λ k h. e k (omega arith))) (e n 
 
 pub every-split : (m n : ℕ) (f : ℕ → Bool) → every (m + n) f ≡ every m f && every n (λ k. f (m + k))
 unfolding every
-every-split m zero f = rw add-zero (&&-true (every m f))
-  where
-    &&-true : (b : Bool) → b ≡ b && true
-    &&-true true = refl
-    &&-true false = refl
+every-split m zero f = rw add-zero (sym (&&-true (every m f)))
 every-split m (suc n) f = rw (add-suc, every-split m n f) (&&-assoc (every m f) (every n (λ k. f (m + k))) (f (m + n)))
 
 -- m rows of n are m × n in one row

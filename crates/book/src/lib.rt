@@ -1,6 +1,7 @@
 // The filter book: five sizes, impulses and differences by phase, level taps and decimation taps, as signed words.
 // `check` accepts a book or gives the number that turns it away.
 
+ghost use mathlib.Core.Bool.{cond};
 ghost use mathlib.Core.Path.{_≡_};
 ghost use Prim.Native.Nat.{_^_, _≤_, _<_};
 ghost use lib.IntN.{natAbs};
@@ -33,6 +34,13 @@ fn word_size(words: &[i32], i: usize) -> usize
     ensures { λ r. ⌜ (r ≡ natAbs (at (now (words .entry)) i)) × (r ≤ 2 ^ 31) ⌝ }
 {
     arith::magnitude(words[i]) as usize
+}
+
+// 1 where a test fails. A loop that counts these has no exit on the way, so that it takes several words at once.
+fn miss(holds: bool) -> u32
+    ensures { λ r. ⌜ (r ≡ cond holds 0 1) × (r ≤ 1) ⌝ }
+{
+    if holds { 0 } else { 1 }
 }
 
 // The sizes of a book that has them.

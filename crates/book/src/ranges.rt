@@ -8,6 +8,7 @@ ghost use Rattle.arith.specs.Lists.{at};
 ghost use Rattle.arith.specs.Tests.{within};
 ghost use Rattle.book.specs.Book.{sizesOf, bookLength};
 ghost use Rattle.book.specs.Check.{powerOfTwo, sizesInRange, wordsInRange, coefficientsInRange};
+use crate::miss;
 use crate::word_size;
 
 // lo ≤ x ≤ hi
@@ -83,17 +84,16 @@ pub fn sizes_in_range(book: &[i32]) -> bool
 
 // Whether the `count` words from place `from` on lie in −32768..32767.
 fn words_in_range(book: &[i32], from: usize, count: usize) -> bool
-    requires { ⌜ from + count ≤ length (now book) ⌝ }
+    requires { ⌜ (from + count ≤ length (now book)) × (count ≤ 3072) ⌝ }
     ensures { λ r. ⌜ r ≡ wordsInRange (now (book .entry)) from count ⌝ }
 {
+    let mut misses = 0;
     let mut i = 0;
     while i < count {
-        if !word_between(book, from + i, -32768, 32767) {
-            return false;
-        }
+        misses += miss(word_between(book, from + i, -32768, 32767));
         i += 1;
     }
-    true
+    misses == 0
 }
 
 // Number 4: the array of impulses, and the taps, which are all behind the array of differences.

@@ -1,12 +1,12 @@
 -- `book::ranges::coefficients_in_range` meets its contract: the taps are what lies behind the two arrays. Assumes nothing.
 use mathlib.Core.Path.{_≡_, ap₂, _∙_}
-use Prim.Native.Nat.{_+_, _-_, _*_}
+use Prim.Native.Nat.{_+_, _-_, _*_, _≤_}
 use native.Mathlib.Omega.{arith}
 use lib.ListN.{length}
 use Rattle.arith.proofs.Tests.{test-fails, test-holds}
 use Rattle.book.specs.Book.{sizesOf, levelTapsAt, differencesAt}
 use Rattle.book.specs.Check.{wordsInRange, coefficientsInRange}
-use Rattle.book.proofs.Bounds.{length-is}
+use Rattle.book.proofs.Bounds.{bounded, array-high, length-is}
 use Rattle.book.proofs.ranges.coefficients_in_range.Statement.{statement}
 use Rattle.book.proofs.ranges.coefficients_in_range.Tie as tie
 
@@ -16,8 +16,16 @@ long : (c : tie.Start)
     length (c .args .book .now) ≡ 5 + c .args .array + c .args .array + (s .reach + 1) + (s .decimation + 1)
 long c = omega (arith, length-is (sizesOf (c .args .book .now)))
 
+-- the sizes are small
+small : (c : tie.Start)
+    → let s = sizesOf (c .args .book .now) in
+    (c .args .array ≤ 3072) × (s .reach ≤ 40) × (s .decimation ≤ 40)
+small c =
+    let f = bounded (c .args .book .now) (c .pre .0 .0) in
+    (rw (c .pre .1) (array-high f), f .reach-high, f .decimation-high)
+
 words-in-range-requires : tie.Need-words-in-range-requires
-words-in-range-requires c κs = omega (arith, long c)
+words-in-range-requires c κs = omega (arith, long c, small c)
 
 returns : tie.Need-returns
 unfolding coefficientsInRange
@@ -35,7 +43,7 @@ sub-words-in-range : tie.Need-sub-words-in-range
 sub-words-in-range c = omega (arith, long (c .before .before))
 
 words-in-range-requires-2 : tie.Need-words-in-range-requires-2
-words-in-range-requires-2 c κs = omega (arith, long (c .before .before))
+words-in-range-requires-2 c κs = omega (arith, long (c .before .before), small (c .before .before))
 
 returns-2 : tie.Need-returns-2
 unfolding coefficientsInRange levelTapsAt differencesAt
