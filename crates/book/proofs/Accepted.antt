@@ -8,19 +8,18 @@ use native.Mathlib.Decide.{decLt}
 use native.Mathlib.Omega.{arith}
 use borrow.Author.Tests.{leb-true, eqb-true}
 use lib.Dec.{leb, eqb, ltb}
-use lib.IntN.{ℤ, pos, negsuc, natAbs, _-ℤ_}
+use lib.IntN.{ℤ, pos, natAbs, _-ℤ_}
 use lib.ListN.{length}
-use Rattle.arith.specs.Lists.{at}
 use Rattle.arith.specs.Sum.{total}
-use Rattle.arith.specs.Tests.{eqZ, every, within}
+use Rattle.arith.specs.Tests.{eqZ, every}
 use Rattle.arith.proofs.Lists.{part-length}
 use Rattle.arith.proofs.Sum.{total-ext, total-first}
-use Rattle.arith.proofs.Tests.{&&-left, &&-right, every-at, eqZ-true, within-half}
+use Rattle.arith.proofs.Tests.{&&-left, &&-right, every-at, eqZ-true}
 use Rattle.book.specs.declared.Sizes.{Sizes}
 use Rattle.book.specs.Number.{refuse}
 use Rattle.book.specs.Book.{sizesOf, levelTapsAt, decimationTapsAt, bookLength, impulseWord, impulse, difference, levelTaps, decimationTaps}
-use Rattle.book.specs.Check.{sizesInRange, wordsInRange, coefficientsInRange, differencesRight, phaseSum, tapSum, sumsInRange, bookNumber}
-use Rattle.book.proofs.Bounds.{Bounded, bounded, decimation-at, end-at, row-below, array-high, length-is}
+use Rattle.book.specs.Check.{sizesInRange, coefficientsInRange, differencesRight, phaseSum, tapSum, sumsInRange, bookNumber}
+use Rattle.book.proofs.Bounds.{Bounded, bounded, decimation-at, end-at, row-below, impulses-small, array-high, length-is}
 use Rattle.book.proofs.Numbers.{none-first, none-second, not-refused}
 use Rattle.book.proofs.Parts.{impulse-stored, impulse-past, impulse-end}
 
@@ -77,11 +76,8 @@ module _ (b : List ℤ) (a : Accepted b) where
 
   -- the word for phase q, tap k lies in −32768..32767
   pub impulseWord-bound : (q k : ℕ) → q < sizesOf b .phases → k < sizesOf b .taps → natAbs (impulseWord b q k) ≤ 32768
-  unfolding impulseWord coefficientsInRange wordsInRange
-  impulseWord-bound q k h l =
-      let s = sizesOf b in
-      let r : every (s .phases * s .taps) (λ i. within (negsuc 32767) (pos 32767) (at b (5 + i))) ≡ true = &&-left _ _ (a .ranged) in
-      within-half 32767 (at b (5 + (q * s .taps + k))) (every-at (s .phases * s .taps) (λ i. within (negsuc 32767) (pos 32767) (at b (5 + i))) r (q * s .taps + k) (row-below h l))
+  unfolding impulseWord
+  impulseWord-bound q k h l = impulses-small b (a .ranged) (5 + (q * sizesOf b .taps + k)) (omega arith) (omega (arith, row-below h l))
 
   pub difference-is : (q k : ℕ) → q < sizesOf b .phases → k < sizesOf b .taps → difference b q k ≡ impulse b (suc q) k -ℤ impulse b q k
   unfolding differencesRight

@@ -1,18 +1,19 @@
 -- What the sizes of a book are bounded by, once they are in range. Assumes nothing.
 use mathlib.Core.Path.{_≡_, refl}
-use mathlib.Core.Bool.{true}
+use mathlib.Core.Bool.{Bool, true}
 use mathlib.Core.List.{List}
-use Prim.Native.Nat.{ℕ, suc, _+_, _*_, _%_, _≤_, _<_}
+use Prim.Native.Nat.{ℕ, suc, _+_, _-_, _*_, _%_, _≤_, _<_}
 use native.Mathlib.Nat.{mul-le-mul, mul-le-mul-right}
 use native.Mathlib.Omega.{arith}
 use borrow.Author.Tests.{eqb-true}
 use lib.Dec.{eqb}
-use lib.IntN.{ℤ, natAbs}
+use lib.IntN.{ℤ, pos, negsuc, natAbs}
 use Rattle.arith.specs.Lists.{at}
-use Rattle.arith.proofs.Tests.{&&-left, &&-right, within-size}
+use Rattle.arith.specs.Tests.{within}
+use Rattle.arith.proofs.Tests.{&&-left, &&-right, every-at, within-size, within-half}
 use Rattle.book.specs.declared.Sizes.{Sizes}
 use Rattle.book.specs.Book.{sizesOf, differencesAt, levelTapsAt, decimationTapsAt, bookLength}
-use Rattle.book.specs.Check.{powerOfTwo, sizesInRange}
+use Rattle.book.specs.Check.{powerOfTwo, sizesInRange, coefficientsInRange, wordsInRange}
 
 pub record Bounded (s : Sizes) : Type 0 where
   pub taps-low : 2 ≤ s .taps
@@ -64,6 +65,15 @@ length-is s = refl
 -- tap k of phase q lies in its array
 pub row-below : {q m k n : ℕ} → q < m → k < n → q * n + k < m * n
 row-below {q} {m} {k} {n} h l = let r : suc q * n ≤ m * n = mul-le-mul-right n h in omega arith
+
+-- the words of the array of impulses, once they are in range
+pub impulses-small : (b : List ℤ) → coefficientsInRange b ≡ true → (i : ℕ) → 5 ≤ i → i < 5 + sizesOf b .phases * sizesOf b .taps → natAbs (at b i) ≤ 32768
+unfolding coefficientsInRange wordsInRange
+impulses-small b e i l h =
+    let n = sizesOf b .phases * sizesOf b .taps in
+    let f : ℕ → Bool = λ k. within (negsuc 32767) (pos 32767) (at b (5 + k)) in
+    let place : 5 + (i - 5) ≡ i = omega arith in
+    rw place at (within-half 32767 (at b (5 + (i - 5))) (every-at n f (&&-left _ _ e) (i - 5) (omega arith)))
 
 -- each part begins where the one before it ends
 pub decimation-at : (s : Sizes) → decimationTapsAt s ≡ levelTapsAt s + (s .reach + 1)

@@ -155,9 +155,10 @@ returns-5 c =
 
 differences-right-requires : tie.Need-differences-right-requires
 differences-right-requires c κs =
-    let e3 = c .before .before .before .before in
+    let e4 = c .before .before in
+    let e3 = e4 .before .before in
     let r = e3 .before .before .before in
-    ((sized (r .before), lengthy e3), (ap (λ z. z .phases * z .taps) (sizes-are r), ap (λ z. z .taps) (sizes-are r)))
+    ((sized (r .before), lengthy e3), ((ap (λ z. z .phases * z .taps) (sizes-are r), ap (λ z. z .taps) (sizes-are r)), ranged e4))
 
 returns-6 : tie.Need-returns-6
 unfolding bookNumber refuse _otherwise_

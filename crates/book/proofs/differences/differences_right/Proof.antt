@@ -2,16 +2,16 @@
 use mathlib.Core.Bool.{_&&_}
 use mathlib.Core.List.{List}
 use mathlib.Core.Path.{_≡_}
-use Prim.Native.Nat.{_+_, _-_, _≤_}
+use Prim.Native.Nat.{ℕ, _+_, _-_, _≤_, _<_}
 use native.Mathlib.Omega.{arith}
-use lib.IntN.{ℤ, pos, _-ℤ_}
+use lib.IntN.{ℤ, pos, natAbs, _-ℤ_}
 use lib.ListN.{length}
 use Rattle.arith.specs.Lists.{at}
 use Rattle.arith.specs.Tests.{eqZ, every}
 use Rattle.arith.proofs.Tests.{test-fails, test-holds}
 use Rattle.book.specs.Book.{sizesOf}
 use Rattle.book.specs.Check.{differencesRight}
-use Rattle.book.proofs.Bounds.{bounded, array-low, array-high, length-is}
+use Rattle.book.proofs.Bounds.{bounded, array-low, array-high, length-is, impulses-small}
 use Rattle.book.proofs.Runs.{rightAt, differences-runs}
 use Rattle.book.proofs.differences.differences_right.Statement.{statement}
 use Rattle.book.proofs.differences.differences_right.Tie as tie
@@ -31,7 +31,14 @@ module _ (c : tie.Start) where
       ≡ every (c .args .array - c .args .taps) (rightAt b (5 + c .args .array) (5 + c .args .taps) 5)
       && (every (c .args .taps - 1) (rightAt b (5 + c .args .array + (c .args .array - c .args .taps)) 6 (5 + (c .args .array - c .args .taps)))
       && eqZ (at b (4 + c .args .array + c .args .array)) (pos 0 -ℤ at b (4 + c .args .array)))
-  rule = differences-runs b (c .args .array) (c .args .taps) (bounded b (c .pre .0 .0)) (c .pre .1 .0) (c .pre .1 .1)
+  rule = differences-runs b (c .args .array) (c .args .taps) (bounded b (c .pre .0 .0)) (c .pre .1 .0 .0) (c .pre .1 .0 .1)
+
+  -- the impulses from two places on
+  small : (m n count : ℕ) → 5 ≤ m → 5 ≤ n → m + count ≤ 5 + c .args .array → n + count ≤ 5 + c .args .array
+      → (i : ℕ) → i < count → (natAbs (at b (m + i)) ≤ 32768) × (natAbs (at b (n + i)) ≤ 32768)
+  small m n count h l p q i less =
+      let s = impulses-small b (c .pre .1 .1) in
+      (s (m + i) (omega arith) (omega arith), s (n + i) (omega arith) (omega arith))
 
 sub-last : tie.Need-sub-last
 sub-last c = omega (arith, room c)
@@ -43,7 +50,7 @@ add-run-right-2 : tie.Need-add-run-right-2
 add-run-right-2 c = omega (arith, room c)
 
 run-right-requires : tie.Need-run-right-requires
-run-right-requires c κs = omega (arith, room c)
+run-right-requires c κs = let r = room c in (omega arith, small c _ _ _ (omega arith) (omega arith) (omega arith) (omega arith))
 
 returns : tie.Need-returns
 returns c = simp (rule (c .before .before), test-fails (c .before .run-right .ensures) (c .if1 .taken))
@@ -61,7 +68,10 @@ sub-run-right : tie.Need-sub-run-right
 sub-run-right c = omega (arith, room (c .before .before))
 
 run-right-requires-2 : tie.Need-run-right-requires-2
-run-right-requires-2 c κs = omega (arith, room (c .before .before))
+run-right-requires-2 c κs =
+    let s = c .before .before in
+    let r = room s in
+    (omega arith, small s _ _ _ (omega arith) (omega arith) (omega arith) (omega arith))
 
 returns-2 : tie.Need-returns-2
 returns-2 c =
