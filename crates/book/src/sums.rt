@@ -7,13 +7,15 @@ ghost use lib.Dec.{leb};
 ghost use lib.ListN.{length};
 ghost use Rattle.arith.specs.Tests.{every};
 ghost use Rattle.book.specs.Book.{sizesOf, levelTapsAt, decimationTapsAt, bookLength};
-ghost use Rattle.book.specs.Check.{sizesInRange, phaseSum, tapSum, sumsInRange};
+ghost use Rattle.book.specs.Check.{sizesInRange, coefficientsInRange, phaseSum, tapSum, sumsInRange};
 use crate::word_size;
 
-// Whether every phase's sum is at most 65536. The check stops at the first phase whose sum is too large.
+// Whether every phase's sum is at most 65536. The check stops at the first phase whose sum is too large. Impulses in
+// range have sums that 32 bits hold.
 fn phases_in_range(book: &[i32], phases: usize, taps: usize) -> bool
     requires { ⌜ (sizesInRange (now book) ≡ true) × (length (now book) ≡ bookLength (sizesOf (now book))) ⌝ }
     requires { ⌜ (phases ≡ sizesOf (now book) .phases) × (taps ≡ sizesOf (now book) .taps) ⌝ }
+    requires { ⌜ coefficientsInRange (now book) ≡ true ⌝ }
     ensures { λ r. ⌜ r ≡ every phases (λ q. leb (phaseSum (now (book .entry)) q) 65536) ⌝ }
 {
     let mut right = true;
@@ -22,7 +24,7 @@ fn phases_in_range(book: &[i32], phases: usize, taps: usize) -> bool
         let mut sum = 0;
         let mut k = 0;
         while k < taps {
-            sum += word_size(book, 5 + (q * taps + k));
+            sum += word_size(book, 5 + (q * taps + k)) as u32;
             k += 1;
         }
         if 65536 < sum {
@@ -59,6 +61,7 @@ pub fn sums_in_range(
     requires { ⌜ (sizesInRange (now book) ≡ true) × (length (now book) ≡ bookLength (sizesOf (now book))) ⌝ }
     requires { ⌜ (phases ≡ sizesOf (now book) .phases) × (taps ≡ sizesOf (now book) .taps) ⌝ }
     requires { ⌜ (level ≡ levelTapsAt (sizesOf (now book))) × (decimation ≡ decimationTapsAt (sizesOf (now book))) ⌝ }
+    requires { ⌜ coefficientsInRange (now book) ≡ true ⌝ }
     ensures { λ r. ⌜ r ≡ sumsInRange (now (book .entry)) ⌝ }
 {
     if !phases_in_range(book, phases, taps) {

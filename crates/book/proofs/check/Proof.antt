@@ -178,12 +178,13 @@ returns-6 c =
 
 sums-in-range-requires : tie.Need-sums-in-range-requires
 sums-in-range-requires c κs =
-    let e3 = c .before .before .before .before .before .before in
+    let e4 = c .before .before .before .before in
+    let e3 = e4 .before .before in
     let r = e3 .before .before .before in (
       (sized (r .before), lengthy e3),
       (
         (ap (λ z. z .phases) (sizes-are r), ap (λ z. z .taps) (sizes-are r)),
-        (sym (level-at (s r)) ∙ ap levelTapsAt (sizes-are r), sym (decimation-at (s r)) ∙ ap decimationTapsAt (sizes-are r)),
+        ((sym (level-at (s r)) ∙ ap levelTapsAt (sizes-are r), sym (decimation-at (s r)) ∙ ap decimationTapsAt (sizes-are r)), ranged e4),
       ),
     )
 

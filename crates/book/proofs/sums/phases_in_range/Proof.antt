@@ -3,7 +3,7 @@
 use mathlib.Core.Bool.{Bool, true}
 use mathlib.Core.List.{List}
 use mathlib.Core.Path.{_≡_, refl, sym, ap₂, _∙_}
-use Prim.Native.Nat.{ℕ, _+_, _-_, _*_, _^_, _≤_, _<_}
+use Prim.Native.Nat.{ℕ, _+_, _-_, _*_, _≤_, _<_}
 use native.Mathlib.Omega.{arith}
 use borrow.Author.Tests.{le-leb, lt-leb}
 use lib.Dec.{leb}
@@ -16,7 +16,7 @@ use Rattle.arith.proofs.Sum.{total-more}
 use Rattle.arith.proofs.Tests.{every-more, every-not}
 use Rattle.book.specs.Book.{sizesOf}
 use Rattle.book.specs.Check.{phaseSum}
-use Rattle.book.proofs.Bounds.{bounded, array-high, length-is, row-below}
+use Rattle.book.proofs.Bounds.{bounded, array-high, length-is, row-below, impulses-small}
 use Rattle.book.proofs.Parts.{phaseSum-stored}
 use Rattle.book.proofs.sums.phases_in_range.Statement.{statement}
 use Rattle.book.proofs.sums.phases_in_range.Tie as tie
@@ -29,7 +29,7 @@ abbrev phaseRight : List ℤ → ℕ → Bool
 phaseRight b q = leb (phaseSum b q) 65536
 
 abbrev Inv-loop : tie.InvT-loop
-Inv-loop book phases taps right q sum₀ k₀ sum k = (k ≤ taps) × (sum ≡ total k (size book taps q)) × (sum ≤ k * 2 ^ 31)
+Inv-loop book phases taps right q sum₀ k₀ sum k = (k ≤ taps) × (sum ≡ total k (size book taps q)) × (sum ≤ k * 32768)
 
 abbrev μ-loop : tie.MeasureT-loop
 μ-loop book phases taps right q sum₀ k₀ sum k = taps - k
@@ -45,18 +45,27 @@ Entry = tie.Start Inv-loop μ-loop Inv-phases μ-phases
 
 -- the array of impulses lies in the book
 array-inside : (c : Entry) → c .args .phases * c .args .taps + 5 ≤ length (c .args .book .now)
-array-inside c = rw (c .pre .1 .0, c .pre .1 .1) (omega (arith, length-is (sizesOf (c .args .book .now))))
+array-inside c = rw (c .pre .1 .0 .0, c .pre .1 .0 .1) (omega (arith, length-is (sizesOf (c .args .book .now))))
 
 array-small : (c : Entry) → c .args .phases * c .args .taps ≤ 3072
-array-small c = rw (c .pre .1 .0, c .pre .1 .1) (array-high (bounded (c .args .book .now) (c .pre .0 .0)))
+array-small c = rw (c .pre .1 .0 .0, c .pre .1 .0 .1) (array-high (bounded (c .args .book .now) (c .pre .0 .0)))
 
 taps-small : (c : Entry) → c .args .taps ≤ 24
-taps-small c = rw (c .pre .1 .1) (bounded (c .args .book .now) (c .pre .0 .0) .taps-high)
+taps-small c = rw (c .pre .1 .0 .1) (bounded (c .args .book .now) (c .pre .0 .0) .taps-high)
 
 inside : (c : tie.In-loop Inv-loop μ-loop Inv-phases μ-phases)
     → let a = c .before .before .before .before .args in
     c .before .before .before .phases .q * a .taps + c .before .loop .k < a .phases * a .taps
 inside c = row-below (c .before .before .phases-test .taken) (c .loop-test .taken)
+
+-- an impulse's size
+word-small : (c : tie.After-word-size Inv-loop μ-loop Inv-phases μ-phases) → c .word-size .result ≤ 32768
+word-small c =
+    let p = c .before .before .before .before in
+    let a = p .before .args in
+    let i = 5 + (p .phases .q * a .taps + c .before .before .loop .k) in
+    let array : a .phases * a .taps ≡ sizesOf (a .book .now) .phases * sizesOf (a .book .now) .taps = ap₂ _*_ (p .before .pre .1 .0 .0) (p .before .pre .1 .0 .1) in
+    rw (c .word-size .ensures .0) (impulses-small (a .book .now) (p .before .pre .1 .1) i (omega arith) (omega (arith, array, inside (c .before))))
 
 phases-holds : tie.Need-phases-holds Inv-loop μ-loop Inv-phases μ-phases
 unfolding every
@@ -78,8 +87,11 @@ add-word-size-2 c = omega (arith, inside c, array-small (c .before .before .befo
 word-size-requires : tie.Need-word-size-requires Inv-loop μ-loop Inv-phases μ-phases
 word-size-requires c κs = omega (arith, inside c, array-inside (c .before .before .before .before))
 
+cast-sum : tie.Need-cast-sum Inv-loop μ-loop Inv-phases μ-phases
+cast-sum c = omega arith
+
 add-sum : tie.Need-add-sum Inv-loop μ-loop Inv-phases μ-phases
-add-sum c = omega (arith, taps-small (c .before .before .before .before .before))
+add-sum c = omega (arith, taps-small (c .before .before .before .before .before), word-small c)
 
 add-k : tie.Need-add-k Inv-loop μ-loop Inv-phases μ-phases
 add-k c = omega arith
@@ -93,7 +105,7 @@ loop-again c =
     let p = c .before .before .before .before in
     let f = size (p .before .args .book .now) (p .before .args .taps) (p .phases .q) in
     let e : l .sum + c .word-size .result ≡ total (l .k + 1) f = ap₂ _+_ (l .inv .1) (c .word-size .ensures .0) ∙ sym (total-more (l .k) f) in
-    (omega arith, e, omega arith)
+    (omega arith, e, omega (arith, word-small c))
 
 add-q : tie.Need-add-q Inv-loop μ-loop Inv-phases μ-phases
 add-q c = omega arith
@@ -110,7 +122,7 @@ sum-is c =
     let b = p .before .args .book .now in
     let whole : c .before .loop .k ≡ sizesOf b .taps = omega arith in
     let q-below : p .phases .q < sizesOf b .phases = omega arith in
-    c .before .loop .inv .1 ∙ ap₂ (λ n taps. total n (size b taps (p .phases .q))) whole (p .before .pre .1 .1) ∙ sym (phaseSum-stored b (p .phases .q) q-below)
+    c .before .loop .inv .1 ∙ ap₂ (λ n taps. total n (size b taps (p .phases .q))) whole (p .before .pre .1 .0 .1) ∙ sym (phaseSum-stored b (p .phases .q) q-below)
 
 phases-again : tie.Need-phases-again Inv-loop μ-loop Inv-phases μ-phases
 phases-again c =
@@ -147,6 +159,7 @@ phases-in-range-spec =
     add-word-size
     add-word-size-2
     word-size-requires
+    cast-sum
     add-sum
     add-k
     loop-less

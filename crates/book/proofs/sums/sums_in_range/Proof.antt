@@ -34,13 +34,13 @@ level-part : (c : tie.Start) → take (c .args .decimation - c .args .level) (dr
 unfolding levelTaps
 level-part c =
     let n : c .args .decimation - c .args .level ≡ sizesOf (b c) .reach + 1 = omega (arith, level-count c) in
-    ap (λ k. part (b c) (c .args .level) k) n ∙ ap (λ k. part (b c) k (sizesOf (b c) .reach + 1)) (c .pre .1 .1 .0)
+    ap (λ k. part (b c) (c .args .level) k) n ∙ ap (λ k. part (b c) k (sizesOf (b c) .reach + 1)) (c .pre .1 .1 .0 .0)
 
 decimation-part : (c : tie.Start) → take (length (b c) - c .args .decimation) (drop (c .args .decimation) (b c)) ≡ decimationTaps (b c)
 unfolding decimationTaps
 decimation-part c =
     let n : length (b c) - c .args .decimation ≡ sizesOf (b c) .decimation + 1 = omega (arith, decimation-count c) in
-    ap (λ k. part (b c) (c .args .decimation) k) n ∙ ap (λ k. part (b c) k (sizesOf (b c) .decimation + 1)) (c .pre .1 .1 .1)
+    ap (λ k. part (b c) (c .args .decimation) k) n ∙ ap (λ k. part (b c) k (sizesOf (b c) .decimation + 1)) (c .pre .1 .1 .0 .1)
 
 -- what the first two calls give
 phases-right : (c : tie.Else1) → every (sizesOf (b (c .before .before)) .phases) (λ q. leb (phaseSum (b (c .before .before)) q) 65536) ≡ true
