@@ -36,6 +36,19 @@ fn phases_in_range(book: &[i32], phases: usize, taps: usize) -> bool
     right
 }
 
+// The same: the most common number of taps is a constant, so that the loop over them is unrolled.
+fn phase_sums_in_range(book: &[i32], phases: usize, taps: usize) -> bool
+    requires { ⌜ (sizesInRange (now book) ≡ true) × (length (now book) ≡ bookLength (sizesOf (now book))) ⌝ }
+    requires { ⌜ (phases ≡ sizesOf (now book) .phases) × (taps ≡ sizesOf (now book) .taps) ⌝ }
+    requires { ⌜ coefficientsInRange (now book) ≡ true ⌝ }
+    ensures { λ r. ⌜ r ≡ every phases (λ q. leb (phaseSum (now (book .entry)) q) 65536) ⌝ }
+{
+    if taps == 12 {
+        return phases_in_range(book, phases, 12);
+    }
+    phases_in_range(book, phases, taps)
+}
+
 // |h[0]| + 2 × (|h[1]| + .. + |h[A]|)
 fn tap_sum(taps: &[i32]) -> usize
     requires { ⌜ (1 ≤ length (now taps)) × (length (now taps) ≤ 41) ⌝ }
@@ -64,7 +77,7 @@ pub fn sums_in_range(
     requires { ⌜ coefficientsInRange (now book) ≡ true ⌝ }
     ensures { λ r. ⌜ r ≡ sumsInRange (now (book .entry)) ⌝ }
 {
-    if !phases_in_range(book, phases, taps) {
+    if !phase_sums_in_range(book, phases, taps) {
         return false;
     }
     if 32768 < tap_sum(&book[level..decimation]) {

@@ -46,17 +46,17 @@ decimation-part c =
 phases-right : (c : tie.Else1) → every (sizesOf (b (c .before .before)) .phases) (λ q. leb (phaseSum (b (c .before .before)) q) 65536) ≡ true
 phases-right c =
     let s = c .before .before in
-    ap (λ n. every n (λ q. leb (phaseSum (b s) q) 65536)) (sym (s .pre .1 .0 .0)) ∙ test-holds (c .before .phases-in-range .ensures) (c .if1 .left)
+    ap (λ n. every n (λ q. leb (phaseSum (b s) q) 65536)) (sym (s .pre .1 .0 .0)) ∙ test-holds (c .before .phase-sums-in-range .ensures) (c .if1 .left)
 
 level-sum : (c : tie.After-tap-sum) → c .tap-sum .result ≡ tapSum (levelTaps (b (c .before .before .before .before)))
 level-sum c = c .tap-sum .ensures ∙ ap tapSum (level-part (c .before .before .before .before))
 
-phases-in-range-requires : tie.Need-phases-in-range-requires
-phases-in-range-requires c κs = search needs
+phase-sums-in-range-requires : tie.Need-phase-sums-in-range-requires
+phase-sums-in-range-requires c κs = search needs
 
 returns : tie.Need-returns
 unfolding sumsInRange
-returns c = simp (rw (c .before .before .pre .1 .0 .0) at (test-fails (c .before .phases-in-range .ensures) (c .if1 .taken)))
+returns c = simp (rw (c .before .before .pre .1 .0 .0) at (test-fails (c .before .phase-sums-in-range .ensures) (c .if1 .taken)))
 
 mul-tap-sum : tie.Need-mul-tap-sum
 mul-tap-sum c = omega (arith, level-count (c .before .before), decimation-count (c .before .before), c .before .before .good)
@@ -112,7 +112,7 @@ pub sums-in-range-spec : {M : Type 1} → statement M
 sums-in-range-spec =
     tie.close
     (tie.spec
-    phases-in-range-requires
+    phase-sums-in-range-requires
     returns
     mul-tap-sum
     sub-tap-sum
