@@ -11,6 +11,7 @@ use lib.IntN.{ℤ, pos, _+ℤ_, _-ℤ_, _*ℤ_}
 use lib.Signed.{_≤ℤ_}
 use Rattle.arith.specs.Floor.{floorDiv}
 use Rattle.arith.proofs.Linear.{linear}
+use Rattle.arith.proofs.Integers.{abs-above}
 use Rattle.arith.proofs.Floor.{floor-mono, floor-unique}
 use Rattle.book.specs.Number.{refuse}
 use Rattle.book.proofs.Numbers.{none-first, none-second, condition-fails, not-refused}
@@ -138,6 +139,12 @@ module _ (a b x j : ℕ) (h : 0 < x + j) where
 
 -- a glide's rates lie where R0 and R1 lie
 module _ (g : Ramp) (j : ℕ) (some : 0 < g .count) (within : j ≤ g .count) where
+  pub glide-is : pos (g .start) +ℤ floorDiv ((pos (g .target) -ℤ pos (g .start)) *ℤ pos j) (g .count) ≡ pos (glideRate g j)
+  unfolding glideRate
+  glide-is =
+      let e : g .count - j + j ≡ g .count = omega arith in
+      abs-above (rw e at (mean-low (g .start) (g .target) (g .count - j) j (omega arith) 0 (omega arith) (omega arith)))
+
   pub glide-low : (lo : ℕ) → lo ≤ g .start → lo ≤ g .target → lo ≤ glideRate g j
   unfolding glideRate
   glide-low lo p q =

@@ -1,6 +1,7 @@
 pub mod Rates
 pub mod Sound
 pub mod Kept
+pub mod Glides
 pub mod Values
 pub mod Histories
 pub mod Steps

@@ -1,7 +1,7 @@
 -- Definitions that only inner functions' contracts cite: no rule of document 01, but a step of the code that computes one.
 use mathlib.Core.Bool.{_&&_, cond}
 use mathlib.Core.List.{List, [], _∷_}
-use Prim.Native.Nat.{ℕ, zero, suc, _+_, _-_, _*_, _/_, _%_, _^_, _≤_, pred}
+use Prim.Native.Nat.{ℕ, zero, suc, _+_, _-_, _*_, _/_, _%_, _^_, _≤_, _<_, pred}
 use lib.Dec.{eqb}
 use lib.IntN.{ℤ, pos, natAbs, _-ℤ_, _*ℤ_, negsuc, _+ℤ_}
 use lib.ListN.{replicate, length}
@@ -11,10 +11,13 @@ use Rattle.book.specs.Book.{sizesOf}
 use Rattle.player.specs.declared.Voice.{Voice}
 use Rattle.player.specs.declared.Control.{Control}
 use Rattle.player.specs.declared.Plan.{Plan}
-use Rattle.player.specs.Moves.{noGlide, noFade, moveGlide, pointPlan, movePoint, moveOutput}
+use Rattle.player.specs.declared.Ramp.{Ramp}
+use Rattle.player.specs.declared.glide.Quotient.{Quotient}
+use Rattle.player.specs.declared.glide.Place.{Place}
+use Rattle.player.specs.Moves.{noGlide, noFade, rampAfter, moveGlide, pointPlan, movePoint, moveOutput}
 use Rattle.player.specs.Points.{limitedWord, levelValue, limit}
 use mathlib.Core.Path.{_≡_}
-use Rattle.arith.specs.Floor.{near}
+use Rattle.arith.specs.Floor.{floorDiv, near}
 use Rattle.book.specs.Check.{tapSum}
 use Rattle.player.specs.Calls.{silence}
 
@@ -33,6 +36,31 @@ windowValue b window place = levelValue b window 4 (place + (sizesOf b .taps / 2
 -- 1 where 2^n does not divide `whole`, or 65536 does not divide `tail`, else 0
 unfoldable pub restOf : ℤ → ℕ → ℤ → ℤ
 restOf whole n tail = cond (eqb (natAbs tail % 65536) 0 && eqb (natAbs whole % 2 ^ n) 0) (pos 0) (pos 1)
+
+-- ---- a glide along a run of outputs
+
+-- a control after its glide's next output, which has rate R
+abbrev pub glideOn : Control → ℕ → Control
+glideOn c R = record { top = c .top; fade = c .fade; rate = R; glide = rampAfter (c .glide) (suc (c .glide .done)); position = c .position }
+
+-- a glide under way whose rates are below 2^32
+pub record RampFits (g : Ramp) : Type 0 where
+  pub start-high : g .start < 2 ^ 32
+  pub target-high : g .target < 2 ^ 32
+  pub count-high : g .count ≤ 65536
+  pub done-high : g .done < g .count
+
+-- z / c: the floor, and the rest
+unfoldable pub quotient : ℤ → ℕ → Quotient
+quotient z c = record { floor = floorDiv z c; rest = natAbs (z -ℤ pos c *ℤ floorDiv z c) }
+
+-- R0 × c + (R1 − R0) × j, of which the rate of output j is the floor by c
+unfoldable pub glideSum : Ramp → ℕ → ℤ
+glideSum g j = pos (g .start) *ℤ pos (g .count) +ℤ (pos (g .target) -ℤ pos (g .start)) *ℤ pos j
+
+-- the place of a glide that has done its output j
+unfoldable pub glidePlace : Ramp → Place
+glidePlace g = record { rate = quotient (glideSum g (g .done)) (g .count); slope = quotient (pos (g .target) -ℤ pos (g .start)) (g .count) }
 
 -- ---- a run of outputs
 

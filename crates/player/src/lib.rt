@@ -2,6 +2,7 @@
 
 mod calls; // open, order, seek and play
 mod decimation; // outputs from a line of points
+mod glide; // a glide along a run of outputs
 mod moves; // what moves a voice: glide, fade, position
 mod outputs; // histories, outputs and blocks of them
 mod points; // level values and points

@@ -14,6 +14,8 @@ ghost use Rattle.player.specs.Sound.{Sound};
 ghost use Rattle.player.specs.Inner.{controlAfter, firstPlan, secondPlan, runPoints, steadyPlan};
 use crate::Control;
 use crate::Fade;
+use crate::glide::glide_stepped;
+use crate::glide::place_of;
 use crate::moves::glide_moved;
 use crate::moves::point_moved;
 use crate::moves::point_plan;
@@ -54,10 +56,12 @@ fn steady_positions(c: Control, fade: u32, count: usize, positions: &mut [u64]) 
     ensures bounds { λ r. ⌜ ((k : ℕ) → k < 2 * r .made → (c .position ≤ getD (now (positions .exit)) k 0) × (getD (now (positions .exit)) k 0 ≤ c .position + k * unit (c .fade .from)) × (getD (now (positions .exit)) k 0 ≤ 2 ^ 60)) ⌝ }
 {
     let level = c.fade.from;
+    let mut place = place_of(c.glide);
     let mut control = c;
     let mut i = 0;
     while i < count {
-        let one = glide_moved(control);
+        let next = glide_stepped(control, place);
+        let one = next.control;
         if asked_level(one.rate) != level {
             return Run { control, made: i };
         }
@@ -65,6 +69,7 @@ fn steady_positions(c: Control, fade: u32, count: usize, positions: &mut [u64]) 
         positions[2 * i] = one.position;
         positions[2 * i + 1] = second;
         control = moved_to(one, level, advanced(second, one.rate));
+        place = next.place;
         i += 1;
     }
     Run { control, made: i }

@@ -9,10 +9,10 @@ use mir.Val.{SFits, toZ, ofZ}
 use Rattle.arith.specs.Floor.{floorDiv}
 use Rattle.arith.proofs.Bits.{reads}
 use Rattle.arith.proofs.Linear.{linear}
-use Rattle.arith.proofs.Integers.{abs-≤, abs-fits, abs-above, abs-*-≤}
+use Rattle.arith.proofs.Integers.{abs-≤, abs-fits, abs-*-≤}
 use Rattle.player.specs.declared.Ramp.{Ramp}
 use Rattle.player.specs.Moves.{glideRate}
-use Rattle.player.proofs.Kept.{mean-low, glide-high}
+use Rattle.player.proofs.Kept.{glide-is, glide-high}
 use Rattle.player.proofs.moves.glide_rate.Statement.{statement}
 use Rattle.player.proofs.moves.glide_rate.Tie as tie
 
@@ -53,10 +53,7 @@ module _ (s : tie.Start) where
 
   -- a mean of R0 and R1 lies between them
   rate-is : pos (g .start) +ℤ floorDiv way (g .count) ≡ pos (glideRate g j)
-  unfolding glideRate
-  rate-is =
-      let e : g .count - j + j ≡ g .count = omega arith in
-      abs-above (rw e at (mean-low (g .start) (g .target) (g .count - j) j (omega arith) 0 (omega arith) (omega arith)))
+  rate-is = glide-is g j (s .pre .3) (s .pre .2)
 
   rate-high : glideRate g j < 2 ^ 63
   rate-high = omega (arith, glide-high g j (s .pre .3) (s .pre .2) (2 ^ 32) (omega arith) (omega arith))

@@ -1,0 +1,118 @@
+-- `player::glide::place_of` meets its contract: no number on the way is above 2^50. Assumes nothing.
+use borrow.Author.Needs.{needs}
+use mathlib.Core.Path.{_≡_}
+use Prim.Native.Nat.{ℕ, _^_, _<_}
+use native.Mathlib.Omega.{arith}
+use lib.IntN.{ℤ, pos, _+ℤ_, _-ℤ_, _*ℤ_}
+use mir.Syntax.{w64}
+use mir.Val.{SFits}
+use Rattle.arith.proofs.Bits.{reads}
+use Rattle.arith.proofs.Linear.{linear}
+use Rattle.arith.proofs.Integers.{abs-fits}
+use Rattle.player.specs.declared.Ramp.{Ramp}
+use Rattle.player.specs.Inner.{RampFits, quotient, glideSum, glidePlace}
+use Rattle.player.proofs.Glides.{way-high, start-product, way-product, sum-high}
+use Rattle.player.proofs.glide.place_of.Statement.{statement}
+use Rattle.player.proofs.glide.place_of.Tie as tie
+
+-- of a glide under way
+module _ (e : tie.Else1) where
+  abbrev g : Ramp
+  g = e .before .args .g
+
+  fits : RampFits g
+  fits = e .before .pre (e .if1 .left)
+
+  -- R0, R1, c and j are the same numbers in an i64
+  start-low : g .start < 2 ^ 63
+  start-low = omega (arith, fits .start-high)
+
+  target-low : g .target < 2 ^ 63
+  target-low = omega (arith, fits .target-high)
+
+  count-low : g .count < 2 ^ 63
+  count-low = omega (arith, fits .count-high)
+
+  done-low : g .done < 2 ^ 63
+  done-low = omega (arith, fits .count-high, fits .done-high)
+
+  abbrev way : ℤ
+  way = pos (g .target) -ℤ pos (g .start)
+
+  way-fits : SFits w64 way
+  way-fits = abs-fits w64 way (omega (arith, way-high g fits))
+
+  start-fits : SFits w64 (pos (g .start) *ℤ pos (g .count))
+  start-fits = abs-fits w64 (pos (g .start) *ℤ pos (g .count)) (omega (arith, start-product g fits))
+
+  done-fits : SFits w64 (way *ℤ pos (g .done))
+  done-fits = abs-fits w64 (way *ℤ pos (g .done)) (omega (arith, way-product g fits (g .done) (omega (arith, fits .done-high))))
+
+  sum-fits : SFits w64 (pos (g .start) *ℤ pos (g .count) +ℤ way *ℤ pos (g .done))
+  unfolding glideSum
+  sum-fits = abs-fits w64 (pos (g .start) *ℤ pos (g .count) +ℤ way *ℤ pos (g .done)) (omega (arith, sum-high g fits (g .done) (omega (arith, fits .done-high))))
+
+returns : tie.Need-returns
+returns c n = absurd (n (c .if1 .taken))
+
+cast-start : tie.Need-cast-start
+cast-start c = let l = start-low (c .before) in simp linear (omega arith)
+
+cast-way : tie.Need-cast-way
+cast-way c = let l = target-low (c .before .before) in simp linear (omega arith)
+
+sub-way : tie.Need-sub-way
+sub-way c = let e = c .before .before in simp (reads, start-low e, target-low e) (way-fits e)
+
+cast-divided : tie.Need-cast-divided
+cast-divided c = search needs
+
+mul-divided : tie.Need-mul-divided
+mul-divided c = let e = c .before .before in simp (reads, start-low e, count-low e) (start-fits e)
+
+cast-divided-2 : tie.Need-cast-divided-2
+cast-divided-2 c = search needs
+
+mul-divided-2 : tie.Need-mul-divided-2
+mul-divided-2 c = let e = c .before .before .before in simp (reads, start-low e, target-low e, done-low e, way-fits e) (done-fits e)
+
+add-divided : tie.Need-add-divided
+add-divided c = let e = c .before .before .before in simp (reads, start-low e, target-low e, count-low e, done-low e, way-fits e, start-fits e, done-fits e) (sum-fits e)
+
+divided-requires : tie.Need-divided-requires
+unfolding glideSum
+divided-requires c κs =
+    let e = c .before .before .before in
+    simp (reads, start-low e, target-low e, count-low e, done-low e, way-fits e, start-fits e, done-fits e, sum-fits e)
+    (sum-high (g e) (fits e) (g e .done) (omega (arith, fits e .done-high)), omega (arith, fits e .done-high), fits e .count-high)
+
+divided-requires-2 : tie.Need-divided-requires-2
+divided-requires-2 c κs =
+    let e = c .before .before .before .before in
+    simp (reads, start-low e, target-low e, way-fits e)
+    (omega (arith, way-high (g e) (fits e)), omega (arith, fits e .done-high), fits e .count-high)
+
+returns-2 : tie.Need-returns-2
+unfolding glidePlace glideSum
+returns-2 c n =
+    let e = c .before .before .before .before .before in
+    let rate = simp (reads, start-low e, target-low e, count-low e, done-low e, way-fits e, start-fits e, done-fits e, sum-fits e) at (c .before .divided .ensures) in
+    let slope = simp (reads, start-low e, target-low e, way-fits e) at (c .divided2 .ensures) in
+    cc
+
+pub place-of-spec : {M : Type 1} → statement M
+place-of-spec =
+    tie.close
+    (tie.spec
+    returns
+    cast-start
+    cast-way
+    sub-way
+    cast-divided
+    mul-divided
+    cast-divided-2
+    mul-divided-2
+    add-divided
+    divided-requires
+    divided-requires-2
+    returns-2)
