@@ -3,7 +3,7 @@
 use mathlib.Core.Path.{_≡_, refl, sym, ap, subst, _∙_}
 use mathlib.Core.List.{List}
 use Prim.Native.Nat.{ℕ, zero, suc, _+_, _-_, _*_, _^_, _≤_, _<_}
-use native.Mathlib.Nat.{le-trans, add-mul}
+use native.Mathlib.Nat.{le-trans, add-mul, mul-le-mul-left}
 use native.Mathlib.Decide.{decLt, ℕ-discrete}
 use native.Mathlib.Omega.{arith}
 use lib.ListN.{length, getD, set, length-set}
@@ -14,9 +14,10 @@ use Rattle.player.specs.Rate.{askedLevel, advance}
 use Rattle.player.specs.Points.{unit}
 use Rattle.player.specs.Moves.{noFade, moveGlide, pointPlan, movePoint, moveOutput}
 use Rattle.player.specs.Sound.{Sound}
-use Rattle.player.specs.Inner.{controlAfter, firstPlan, secondPlan, steadyPlan}
+use Rattle.player.specs.Inner.{controlAfter, firstPlan, secondPlan, steadyPlan, leftOf, rateAt, glideAt, controlAt}
 use Rattle.player.proofs.Kept.{moveGlide-sound, moveGlide-top, movePoint-sound}
-use Rattle.player.proofs.Steady.{moveGlide-fade, moveGlide-position, asked-rate, steady-plan, steady-moved, advance-high, advance-low}
+use Rattle.player.proofs.Glides.{control-fits, rate-at-high, control-next}
+use Rattle.player.proofs.Steady.{moveGlide-fade, moveGlide-position, asked-rate, steady-plan, steady-moved, advance-high, advance-low, advance-below}
 
 -- the positions ps of the points of i outputs from control c, and the control d after them
 pub record Along (F : ℕ) (c : Control) (ps : List ℕ) (d : Control) (i : ℕ) : Type 0 where
@@ -185,3 +186,29 @@ along-next {F} {c} {d} {z = z} {ps = ps} {i = i} a ex asked eP ez h room =
     three-is a asked′ h ∙ ap (λ w. record { top = w .top; fade = noFade (c .fade .from); rate = w .rate; glide = w .glide; position = advance (w .position) (w .rate) }) (two-is a asked′ h) in
     rw (ez, eP, ex)
     (subst (λ q. Along F c (with q) (at (advance P₂ (o .rate))) (suc i)) second (subst (λ w. Along F c (with (two a asked′ h .position)) w (suc i)) last (along-more a asked′ h room)))
+
+-- ---- one output more of a run whose rates are known
+
+module _ {F : ℕ} {c : Control} {ps : List ℕ} {i R N : ℕ} (P : ℕ) (a : Along F c ps (controlAt c i R P) i) (s : Sound F c) (near : suc i ≤ 64) (left : leftOf (c .glide) (suc i)) (still : c .glide .count ≡ 0 → R ≡ c .rate)
+    (N-is : N ≡ rateAt c (suc i)) (inside : c .position ≤ 2 ^ 60 - 2 ^ 40) where
+  position-is : controlAt c i R P .position ≡ P
+  unfolding controlAt
+  position-is = refl
+
+  -- 128 points at rates up to 2^32 stay below 2^60
+  pub run-high : P + 2 * N ≤ 2 ^ 60
+  unfolding unit
+  run-high =
+      let u : unit (c .fade .from) ≤ 2 ^ 32 = pow-mono {i = 28 + c .fade .from} {j = 32} (omega (arith, s .top-high, s .from-high)) in
+      let h : 2 * i * unit (c .fade .from) ≤ 2 * i * 2 ^ 32 = mul-le-mul-left (2 * i) u in
+      let r : rateAt c (suc i) ≤ 2 ^ 32 = rate-at-high (control-fits s) (suc i) left in
+      omega (arith, a .high, h, r, N-is, near, position-is, inside)
+
+  pub along-run : askedLevel N ≡ c .fade .from → 1 ≤ F → 2 * i + 1 < length ps → Along F c (set (set ps (2 * i) P) (2 * i + 1) (P + N)) (controlAt c (suc i) N (P + 2 * N)) (suc i)
+  unfolding controlAt
+  along-run asked F-low room =
+      let x : Control = record { top = c .top; fade = noFade (c .fade .from); rate = N; glide = glideAt (c .glide) (suc i); position = P } in
+      let ex : x ≡ moveGlide (controlAt c i R P) = ap (λ r. record { top = c .top; fade = noFade (c .fade .from); rate = r; glide = glideAt (c .glide) (suc i); position = P }) N-is ∙ control-next c i R P left still in
+      let one : P + N ≡ advance P N = sym (advance-below P N (omega (arith, run-high))) in
+      let two : P + 2 * N ≡ advance (P + N) N = sym (advance-below (P + N) N (omega (arith, run-high)) ∙ omega arith) in
+      along-next a ex asked one (ap (λ q. record { top = c .top; fade = noFade (c .fade .from); rate = N; glide = glideAt (c .glide) (suc i); position = q }) two) F-low room

@@ -1,21 +1,24 @@
 -- The laws of a quotient with its rest, and of a glide's place: the sum of two quotients, and the place after one output more. Assumes nothing.
-use mathlib.Core.Path.{_≡_, refl, sym, ap, _∙_}
+use mathlib.Core.Path.{_≡_, refl, sym, ap, ap₂, _∙_}
 use Prim.Native.Nat.{ℕ, suc, _+_, _-_, _*_, _^_, _≤_, _<_}
-use native.Mathlib.Nat.{le-trans}
+use native.Mathlib.Nat.{le-trans, mul-le-mul-left, add-zero, add-suc}
 use native.Mathlib.Decide.{ℕ-discrete}
 use native.Mathlib.Omega.{arith}
 use borrow.Author.Tests.{eq-eqb, ne-eqb}
-use lib.IntN.{ℤ, pos, natAbs, _+ℤ_, _-ℤ_, _*ℤ_}
+use lib.IntN.{ℤ, pos, negℤ, natAbs, _+ℤ_, _-ℤ_, _*ℤ_}
+use lib.Signed.{_≤ℤ_, _<ℤ_}
 use lib.Pow.{pow-mono}
 use Rattle.arith.specs.Floor.{floorDiv}
 use Rattle.arith.proofs.Linear.{linear}
-use Rattle.arith.proofs.Integers.{abs-≤, abs-above, abs-triangle, abs-*-≤}
-use Rattle.arith.proofs.Floor.{floor-≤, floor-<, floor-unique, floor-+, floor-bound}
+use Rattle.arith.proofs.Integers.{abs-≤, abs-above, abs-triangle, abs-*-≤, <ℤ-≤ℤ, *ℤ-≤ℤ-pos, *ℤ-<ℤ-cancel}
+use Rattle.arith.proofs.Floor.{floor-≤, floor-<, floor-+}
 use Rattle.player.specs.declared.Ramp.{Ramp}
+use Rattle.player.specs.declared.Control.{Control}
+use Rattle.player.specs.declared.Fade.{Fade}
 use Rattle.player.specs.declared.glide.Quotient.{Quotient}
-use Rattle.player.specs.Moves.{glideRate, rampAfter}
-use Rattle.player.specs.Sound.{RampSound}
-use Rattle.player.specs.Inner.{RampFits, quotient, glideSum, glidePlace}
+use Rattle.player.specs.Moves.{noFade, glideRate, rampAfter, moveGlide}
+use Rattle.player.specs.Sound.{RampSound, Sound}
+use Rattle.player.specs.Inner.{RampFits, ControlFits, RatesOf, quotient, glideSum, leftOf, rateAt, glideAt, controlAt}
 use Rattle.player.proofs.Kept.{glide-is, glide-high}
 
 -- ---- a quotient and its rest
@@ -32,28 +35,32 @@ module _ (z : ℤ) {c : ℕ} (h : 0 < c) where
   pub rest-high : quotient z c .rest < c
   rest-high = let e = rw floor-is at rest-is in omega (arith, simp linear at e, simp linear at (floor-< z h))
 
-  quotient-unique : {q : ℤ} {r : ℕ} → r < c → z ≡ pos c *ℤ q +ℤ pos r → quotient z c ≡ record { floor = q; rest = r }
-  unfolding quotient
-  quotient-unique {q} {r} l e =
-      let s = simp linear at e in
-      let f : floorDiv z c ≡ q = floor-unique z h (simp linear (omega arith)) (simp linear (omega arith)) in
-      let n : natAbs (z -ℤ pos c *ℤ q) ≡ r = simp linear (omega arith) in
-      rw (f, n)
+-- ---- a sum that goes up by a slope which is rounded up, in 2^-23
 
--- the sum of two quotients
-module _ (x y : ℤ) {c : ℕ} {a b : Quotient} (h : 0 < c) (ea : a ≡ quotient x c) (eb : b ≡ quotient y c) where
-  a-rest : pos (a .rest) ≡ x -ℤ pos c *ℤ a .floor
-  a-rest = rw ea (rest-is x h)
+module _ (c i rest R : ℕ) (F u S W M : ℤ) (some : 0 < c) (few : c ≤ 65536) (near : i ≤ 64)
+    (u-low : (pos (2 ^ 23) *ℤ pos rest) ≤ℤ (pos c *ℤ u)) (u-high : (pos c *ℤ u) <ℤ (pos (2 ^ 23) *ℤ pos rest +ℤ pos c))
+    (S-low : (pos (2 ^ 23) *ℤ W) ≤ℤ (pos c *ℤ S)) (S-high : (pos c *ℤ S) <ℤ (pos (2 ^ 23) *ℤ W +ℤ pos c))
+    (M-is : M ≡ pos c *ℤ F +ℤ pos rest +ℤ W *ℤ pos i) (M-low : (pos c *ℤ pos R) ≤ℤ M) (M-high : M <ℤ (pos c *ℤ pos R +ℤ pos c)) where
+  abbrev v : ℤ
+  v = pos (2 ^ 23) *ℤ F +ℤ u +ℤ S *ℤ pos i
 
-  b-rest : pos (b .rest) ≡ y -ℤ pos c *ℤ b .floor
-  b-rest = rw eb (rest-is y h)
+  pub sloped-low : pos (2 ^ 23 * R) ≤ℤ v
+  sloped-low =
+      let s = *ℤ-≤ℤ-pos i S-low in
+      let l : (pos c *ℤ pos (2 ^ 23 * R)) <ℤ (pos c *ℤ (v +ℤ pos 1)) = simp linear (omega (arith, simp linear at s, simp linear at u-low, simp linear at M-is, simp linear at M-low)) in
+      let k : pos (2 ^ 23 * R) <ℤ (v +ℤ pos 1) = *ℤ-<ℤ-cancel c l in
+      simp linear (omega (arith, simp linear at k))
 
-  pub sum-below : a .rest + b .rest < c → record { floor = a .floor +ℤ b .floor; rest = a .rest + b .rest } ≡ quotient (x +ℤ y) c
-  sum-below l = sym (quotient-unique (x +ℤ y) h l (simp linear (omega (arith, simp linear at a-rest, simp linear at b-rest))))
+  pub sloped-high : v <ℤ pos (2 ^ 23 * R + 2 ^ 23)
+  sloped-high =
+      let s = *ℤ-≤ℤ-pos i (<ℤ-≤ℤ S-high) in
+      let n : c * i ≤ c * 64 = mul-le-mul-left c near in
+      *ℤ-<ℤ-cancel c (simp linear (omega (arith, n, simp linear at s, simp linear at u-high, simp linear at M-is, simp linear at M-high)))
 
-  -- the rests reach c
-  pub sum-carried : c ≤ a .rest + b .rest → a .rest < c → b .rest < c → record { floor = a .floor +ℤ b .floor +ℤ pos 1; rest = a .rest + b .rest - c } ≡ quotient (x +ℤ y) c
-  sum-carried l p q = sym (quotient-unique (x +ℤ y) h (omega arith) (simp linear (omega (arith, simp linear at a-rest, simp linear at b-rest))))
+-- the slope is the difference of two rates
+slope-small : (x S : ℤ) (m n : ℕ) → pos (2 ^ 23 * m) ≤ℤ (x +ℤ S *ℤ pos 0) → (x +ℤ S *ℤ pos 0) <ℤ pos (2 ^ 23 * m + 2 ^ 23) → pos (2 ^ 23 * n) ≤ℤ (x +ℤ S *ℤ pos 1) → (x +ℤ S *ℤ pos 1) <ℤ pos (2 ^ 23 * n + 2 ^ 23)
+    → m ≤ 2 ^ 32 → n ≤ 2 ^ 32 → ((x ≤ℤ pos (2 ^ 56)) × (negℤ (pos (2 ^ 56)) ≤ℤ x)) × ((S ≤ℤ pos (2 ^ 56)) × (negℤ (pos (2 ^ 56)) ≤ℤ S))
+slope-small x S m n = simp linear (omega arith)
 
 -- ---- a glide's place
 
@@ -66,10 +73,6 @@ module _ (g : Ramp) (fits : RampFits g) where
 
   pub way-high : natAbs way ≤ 2 ^ 32
   way-high = abs-≤ way (simp linear (omega (arith, fits .start-high, fits .target-high)))
-
-  pub slope-high : natAbs (quotient way (g .count) .floor) ≤ 2 ^ 32
-  unfolding quotient
-  slope-high = floor-bound way some (2 ^ 32) (omega (arith, way-high, some))
 
   -- every number on the way fits
   pub start-product : natAbs (pos (g .start) *ℤ pos (g .count)) ≤ 2 ^ 48
@@ -94,22 +97,10 @@ module _ (g : Ramp) (fits : RampFits g) where
   pub rate-high : (j : ℕ) → j ≤ g .count → glideRate g j ≤ 2 ^ 32
   rate-high j l = glide-high g j some l (2 ^ 32) (omega (arith, fits .start-high)) (omega (arith, fits .target-high))
 
-  pub floor-high : (j : ℕ) → j ≤ g .count → natAbs (quotient (glideSum g j) (g .count) .floor) ≤ 2 ^ 32
-  floor-high j l = rw (rate-at j l) (rate-high j l)
-
-  -- one output more
-  pub sum-next : (j : ℕ) → glideSum g j +ℤ way ≡ glideSum g (suc j)
+  -- i outputs more
+  sum-plus : (j i : ℕ) → glideSum g (j + i) ≡ glideSum g j +ℤ way *ℤ pos i
   unfolding glideSum
-  sum-next j = simp linear (omega arith)
-
-  -- after it the glide has that place, or is at rest
-  pub place-next : (rampAfter g (suc (g .done)) .count ≡ 0 → ⊥) → record { rate = quotient (glideSum g (suc (g .done))) (g .count); slope = quotient way (g .count) } ≡ glidePlace (rampAfter g (suc (g .done)))
-  unfolding rampAfter glidePlace glideSum
-  place-next = go (ℕ-discrete (suc (g .done)) (g .count))
-    where
-      go : Dec (suc (g .done) ≡ g .count) → (rampAfter g (suc (g .done)) .count ≡ 0 → ⊥) → record { rate = quotient (glideSum g (suc (g .done))) (g .count); slope = quotient way (g .count) } ≡ glidePlace (rampAfter g (suc (g .done)))
-      go (yes e) = rw (eq-eqb (suc (g .done)) (g .count) e) (λ n. absurd (n refl))
-      go (no e) = rw (ne-eqb (suc (g .done)) (g .count) e) (λ n. refl)
+  sum-plus j i = simp linear (omega arith)
 
 -- a sound glide's rates are below 2^32
 pub ramp-fits : {T : ℕ} {g : Ramp} → T ≤ 4 → RampSound T g → RampFits g
@@ -121,3 +112,110 @@ ramp-fits {T} h r =
       count-high = r .count-high;
       done-high = r .done-high;
     }
+
+-- ---- rates along a run
+
+module _ (c : Control) where
+  pub still-rate : c .glide .count ≡ 0 → (i : ℕ) → rateAt c i ≡ c .rate
+  unfolding rateAt
+  still-rate z i = rw (eq-eqb (c .glide .count) 0 z)
+
+  glide-rate : (c .glide .count ≡ 0 → ⊥) → (i : ℕ) → rateAt c i ≡ glideRate (c .glide) (c .glide .done + i)
+  unfolding rateAt
+  glide-rate n i = rw (ne-eqb (c .glide .count) 0 n)
+
+  -- R, in 2^-23
+  pub still-rates : c .glide .count ≡ 0 → c .rate < 2 ^ 32 → RatesOf c (record { start = pos (2 ^ 23) *ℤ pos (c .rate); slope = pos 0 })
+  still-rates z h = record {
+    start-size = simp linear (omega arith);
+    slope-size = omega arith;
+    low = λ i l n. rw (still-rate z i) (simp linear (omega arith));
+    high = λ i l n. rw (still-rate z i) (simp linear (omega arith));
+  }
+
+  -- along a glide: the floor and the rest of its place, and the slope, in 2^-23
+  module _ (n : c .glide .count ≡ 0 → ⊥) (fits : RampFits (c .glide)) {p : Quotient} (p-is : p ≡ quotient (glideSum (c .glide) (c .glide .done)) (c .glide .count)) (u S : ℤ)
+      (u-low : (pos (2 ^ 23) *ℤ pos (p .rest)) ≤ℤ (pos (c .glide .count) *ℤ u)) (u-high : (pos (c .glide .count) *ℤ u) <ℤ (pos (2 ^ 23) *ℤ pos (p .rest) +ℤ pos (c .glide .count)))
+      (S-low : (pos (2 ^ 23) *ℤ way (c .glide) fits) ≤ℤ (pos (c .glide .count) *ℤ S)) (S-high : (pos (c .glide .count) *ℤ S) <ℤ (pos (2 ^ 23) *ℤ way (c .glide) fits +ℤ pos (c .glide .count))) where
+    abbrev g : Ramp
+    g = c .glide
+
+    sum-is : (i : ℕ) → glideSum g (g .done + i) ≡ pos (g .count) *ℤ p .floor +ℤ pos (p .rest) +ℤ way g fits *ℤ pos i
+    sum-is i =
+        let e : pos (p .rest) ≡ glideSum g (g .done) -ℤ pos (g .count) *ℤ p .floor = rw p-is (rest-is (glideSum g (g .done)) (some g fits)) in
+        let f : glideSum g (g .done) ≡ pos (g .count) *ℤ p .floor +ℤ pos (p .rest) = simp linear (omega (arith, simp linear at e)) in
+        sum-plus g fits (g .done) i ∙ ap (λ z. z +ℤ way g fits *ℤ pos i) f
+
+    floor-rate : (i : ℕ) → g .done + i ≤ g .count → floorDiv (glideSum g (g .done + i)) (g .count) ≡ pos (rateAt c i)
+    floor-rate i l = sym (floor-is (glideSum g (g .done + i)) (some g fits)) ∙ rate-at g fits (g .done + i) l ∙ ap pos (sym (glide-rate n i))
+
+    at-low : (i : ℕ) → i ≤ 64 → g .done + i ≤ g .count → pos (2 ^ 23 * rateAt c i) ≤ℤ (pos (2 ^ 23) *ℤ p .floor +ℤ u +ℤ S *ℤ pos i)
+    at-low i k l =
+        let M = glideSum g (g .done + i) in
+        sloped-low (g .count) i (p .rest) (rateAt c i) (p .floor) u S (way g fits) M (some g fits) (fits .count-high) k u-low u-high S-low S-high (sum-is i)
+        (rw (floor-rate i l) at (floor-≤ M (some g fits)))
+        (rw (floor-rate i l) at (floor-< M (some g fits)))
+
+    at-high : (i : ℕ) → i ≤ 64 → g .done + i ≤ g .count → (pos (2 ^ 23) *ℤ p .floor +ℤ u +ℤ S *ℤ pos i) <ℤ pos (2 ^ 23 * rateAt c i + 2 ^ 23)
+    at-high i k l =
+        let M = glideSum g (g .done + i) in
+        sloped-high (g .count) i (p .rest) (rateAt c i) (p .floor) u S (way g fits) M (some g fits) (fits .count-high) k u-low u-high S-low S-high (sum-is i)
+        (rw (floor-rate i l) at (floor-≤ M (some g fits)))
+        (rw (floor-rate i l) at (floor-< M (some g fits)))
+
+    at-rate : (i : ℕ) → g .done + i ≤ g .count → rateAt c i ≤ 2 ^ 32
+    at-rate i l = rw (glide-rate n i) (rate-high g fits (g .done + i) l)
+
+    pub glide-rates : RatesOf c (record { start = pos (2 ^ 23) *ℤ p .floor +ℤ u; slope = S })
+    glide-rates =
+        let z : g .done + 0 ≤ g .count = omega (arith, fits .done-high) in
+        let o : g .done + 1 ≤ g .count = omega (arith, fits .done-high) in
+        let small = slope-small (pos (2 ^ 23) *ℤ p .floor +ℤ u) S (rateAt c 0) (rateAt c 1) (at-low 0 (omega arith) z) (at-high 0 (omega arith) z) (at-low 1 (omega arith) o) (at-high 1 (omega arith) o) (at-rate 0 z) (at-rate 1 o) in
+        record {
+          start-size = abs-≤ (pos (2 ^ 23) *ℤ p .floor +ℤ u) (small .0);
+          slope-size = abs-≤ S (small .1);
+          low = λ i k l. at-low i k (l n);
+          high = λ i k l. at-high i k (l n);
+        }
+
+-- ---- the control along a run
+
+pub control-fits : {F : ℕ} {c : Control} → Sound F c → ControlFits c
+control-fits {c = c} s =
+    let p : 2 ^ (28 + c .top) ≤ 2 ^ 32 = pow-mono {i = 28 + c .top} {j = 32} (omega (arith, s .top-high)) in
+    record { rate-high = le-trans (s .rate-high) p; glide-fits = λ n. ramp-fits (s .top-high) (s .glide-sound n) }
+
+pub rate-at-high : {c : Control} → ControlFits c → (i : ℕ) → leftOf (c .glide) i → rateAt c i ≤ 2 ^ 32
+rate-at-high {c} f i l = go (ℕ-discrete (c .glide .count) 0)
+  where
+    go : Dec (c .glide .count ≡ 0) → rateAt c i ≤ 2 ^ 32
+    go (yes z) = rw (still-rate c z i) (omega (arith, f .rate-high))
+    go (no n) = rw (glide-rate c n i) (rate-high (c .glide) (f .glide-fits n) (c .glide .done + i) (l n))
+
+-- after no output
+glide-none : (g : Ramp) → ((g .count ≡ 0 → ⊥) → RampFits g) → glideAt g 0 ≡ g
+unfolding glideAt rampAfter
+glide-none g f = go (ℕ-discrete (g .count) 0)
+  where
+    go : Dec (g .count ≡ 0) → glideAt g 0 ≡ g
+    go (yes z) = rw (eq-eqb (g .count) 0 z)
+    go (no n) = rw (ne-eqb (g .count) 0 n, add-zero (g .done), ne-eqb (g .done) (g .count) (λ e. absurd (omega (arith, f n .done-high))))
+
+pub control-none : {F : ℕ} {c : Control} → Sound F c → c .fade .step ≡ 0 → controlAt c 0 (c .rate) (c .position) ≡ c
+unfolding controlAt
+control-none {c = c} s rests =
+    let fade : noFade (c .fade .from) ≡ c .fade = ap₂ (λ (t n : ℕ). record { from = c .fade .from; to = t; step = n }) (s .resting rests) (sym rests) in
+    let glide = glide-none (c .glide) (control-fits s .glide-fits) in
+    ap₂ (λ (f : Fade) (g : Ramp). record { top = c .top; fade = f; rate = c .rate; glide = g; position = c .position }) fade glide
+
+-- one output more, before its points
+pub control-next : (c : Control) (i R P : ℕ) → leftOf (c .glide) (suc i) → (c .glide .count ≡ 0 → R ≡ c .rate)
+    → record { top = c .top; fade = noFade (c .fade .from); rate = rateAt c (suc i); glide = glideAt (c .glide) (suc i); position = P } ≡ moveGlide (controlAt c i R P)
+unfolding controlAt glideAt rateAt moveGlide rampAfter glideRate
+control-next c i R P left still = go (ℕ-discrete (c .glide .count) 0)
+  where
+    go : Dec (c .glide .count ≡ 0) → record { top = c .top; fade = noFade (c .fade .from); rate = rateAt c (suc i); glide = glideAt (c .glide) (suc i); position = P } ≡ moveGlide (controlAt c i R P)
+    go (yes z) = simp (eq-eqb (c .glide .count) 0 z, still z)
+    go (no n) =
+        let l = left n in
+        simp (ne-eqb (c .glide .count) 0 n, add-suc, ne-eqb (c .glide .done + i) (c .glide .count) (λ e. absurd (omega arith)))

@@ -64,6 +64,10 @@ pub advance-low : (P R : ℕ) → P ≤ 2 ^ 60 → P ≤ advance P R
 unfolding advance
 advance-low P R h = le-min (omega arith) h
 
+pub advance-below : (P R : ℕ) → P + R ≤ 2 ^ 60 → advance P R ≡ P + R
+unfolding advance
+advance-below P R h = omega arith
+
 -- ---- its point
 
 pub steady-point : (b store : List ℤ) (S l P : ℕ) → point b store S (steadyPlan l P) ≡ levelValue b (storeLevel store S l) l P

@@ -5,6 +5,7 @@ use Prim.Native.Nat.{ℕ, zero, suc, _+_, _-_, _*_, _/_, _%_, _^_, _≤_, _<_, p
 use lib.Dec.{eqb}
 use lib.IntN.{ℤ, pos, natAbs, _-ℤ_, _*ℤ_, negsuc, _+ℤ_}
 use lib.ListN.{replicate, length}
+use lib.Signed.{_≤ℤ_, _<ℤ_}
 use Rattle.arith.specs.Lists.{at, overwrite, wordAt}
 use Rattle.arith.specs.Sum.{sum, sumAround}
 use Rattle.book.specs.Book.{sizesOf}
@@ -13,8 +14,8 @@ use Rattle.player.specs.declared.Control.{Control}
 use Rattle.player.specs.declared.Plan.{Plan}
 use Rattle.player.specs.declared.Ramp.{Ramp}
 use Rattle.player.specs.declared.glide.Quotient.{Quotient}
-use Rattle.player.specs.declared.glide.Place.{Place}
-use Rattle.player.specs.Moves.{noGlide, noFade, rampAfter, moveGlide, pointPlan, movePoint, moveOutput}
+use Rattle.player.specs.declared.glide.Rates.{Rates}
+use Rattle.player.specs.Moves.{noGlide, noFade, glideRate, rampAfter, moveGlide, pointPlan, movePoint, moveOutput}
 use Rattle.player.specs.Points.{limitedWord, levelValue, limit}
 use mathlib.Core.Path.{_≡_}
 use Rattle.arith.specs.Floor.{floorDiv, near}
@@ -37,11 +38,7 @@ windowValue b window place = levelValue b window 4 (place + (sizesOf b .taps / 2
 unfoldable pub restOf : ℤ → ℕ → ℤ → ℤ
 restOf whole n tail = cond (eqb (natAbs tail % 65536) 0 && eqb (natAbs whole % 2 ^ n) 0) (pos 0) (pos 1)
 
--- ---- a glide along a run of outputs
-
--- a control after its glide's next output, which has rate R
-abbrev pub glideOn : Control → ℕ → Control
-glideOn c R = record { top = c .top; fade = c .fade; rate = R; glide = rampAfter (c .glide) (suc (c .glide .done)); position = c .position }
+-- ---- rates along a run of outputs
 
 -- a glide under way whose rates are below 2^32
 pub record RampFits (g : Ramp) : Type 0 where
@@ -49,6 +46,11 @@ pub record RampFits (g : Ramp) : Type 0 where
   pub target-high : g .target < 2 ^ 32
   pub count-high : g .count ≤ 65536
   pub done-high : g .done < g .count
+
+-- a control whose rates are below 2^32
+pub record ControlFits (c : Control) : Type 0 where
+  pub rate-high : c .rate < 2 ^ 32
+  pub glide-fits : (c .glide .count ≡ 0 → ⊥) → RampFits (c .glide)
 
 -- z / c: the floor, and the rest
 unfoldable pub quotient : ℤ → ℕ → Quotient
@@ -58,9 +60,27 @@ quotient z c = record { floor = floorDiv z c; rest = natAbs (z -ℤ pos c *ℤ f
 unfoldable pub glideSum : Ramp → ℕ → ℤ
 glideSum g j = pos (g .start) *ℤ pos (g .count) +ℤ (pos (g .target) -ℤ pos (g .start)) *ℤ pos j
 
--- the place of a glide that has done its output j
-unfoldable pub glidePlace : Ramp → Place
-glidePlace g = record { rate = quotient (glideSum g (g .done)) (g .count); slope = quotient (pos (g .target) -ℤ pos (g .start)) (g .count) }
+-- n outputs are left of a glide, if there is one
+abbrev pub leftOf : Ramp → ℕ → Type 0
+leftOf g n = (g .count ≡ 0 → ⊥) → g .done + n ≤ g .count
+
+-- the rate of output i from now, and the glide after it
+unfoldable pub rateAt : Control → ℕ → ℕ
+rateAt c i = cond (eqb (c .glide .count) 0) (c .rate) (glideRate (c .glide) (c .glide .done + i))
+
+unfoldable pub glideAt : Ramp → ℕ → Ramp
+glideAt g i = cond (eqb (g .count) 0) g (rampAfter g (g .done + i))
+
+-- rates in 2^-23 that are those of the next 64 outputs, up to the end of the glide
+pub record RatesOf (c : Control) (r : Rates) : Type 0 where
+  pub start-size : natAbs (r .start) ≤ 2 ^ 56
+  pub slope-size : natAbs (r .slope) ≤ 2 ^ 56
+  pub low : (i : ℕ) → i ≤ 64 → leftOf (c .glide) i → pos (2 ^ 23 * rateAt c i) ≤ℤ (r .start +ℤ r .slope *ℤ pos i)
+  pub high : (i : ℕ) → i ≤ 64 → leftOf (c .glide) i → (r .start +ℤ r .slope *ℤ pos i) <ℤ pos (2 ^ 23 * rateAt c i + 2 ^ 23)
+
+-- a control after i outputs without a fade
+unfoldable pub controlAt : Control → ℕ → ℕ → ℕ → Control
+controlAt c i R P = record { top = c .top; fade = noFade (c .fade .from); rate = R; glide = glideAt (c .glide) i; position = P }
 
 -- ---- a run of outputs
 

@@ -1,14 +1,14 @@
-// A glide along a run of outputs: each rate from the one before, by sums. With Δ = R1 − R0, output j of c has rate
-// floor((R0 × c + Δ × j) / c); an output adds Δ / c, whose floor and rest are found once.
+// Rates along a run of outputs, without a division for each: in 2^-23 of a unit the rates of a glide go up by a fixed slope. A run has at most 64
+// outputs, so that a slope that is rounded up is never above the next rate.
 
 ghost use mathlib.Core.Path.{_≡_};
-ghost use Prim.Native.Nat.{_^_, _≤_, _<_};
-ghost use lib.IntN.{ℤ, natAbs, _+ℤ_};
-ghost use Rattle.player.specs.Moves.{moveGlide};
-ghost use Rattle.player.specs.Inner.{RampFits, quotient, glidePlace};
+ghost use Prim.Native.Nat.{ℕ, _+_, _*_, _^_, _≤_, _<_};
+ghost use lib.IntN.{pos, natAbs, _+ℤ_, _*ℤ_};
+ghost use lib.Signed.{_≤ℤ_, _<ℤ_};
+ghost use Rattle.player.specs.Inner.{RampFits, ControlFits, RatesOf, quotient, glideSum, glideAt, leftOf};
 use crate::Control;
 use crate::Ramp;
-use crate::moves::glide_on;
+use crate::moves::ramp_after;
 
 // A number divided by c: the floor, and the rest in 0..c−1.
 pub struct Quotient {
@@ -16,16 +16,10 @@ pub struct Quotient {
     pub rest: u32,
 }
 
-// The place of a glide: the quotient whose floor is R, and the quotient that an output adds to it.
-pub struct Place {
-    pub rate: Quotient,
-    pub slope: Quotient,
-}
-
-// A control, and the place of its glide.
-pub struct Placed {
-    pub control: Control,
-    pub place: Place,
+// Rates in 2^-23: that of output i of a run is the floor of start + slope × i.
+pub struct Rates {
+    pub start: i64,
+    pub slope: i64,
 }
 
 // z / c.
@@ -42,57 +36,75 @@ fn divided(z: i64, c: u32) -> Quotient
     }
 }
 
-// The sum of two numbers divided by c: one more where the rests reach c.
-fn added(a: Quotient, b: Quotient, c: u32) -> Quotient
-    requires { ⌜ (natAbs (a .floor) ≤ 2 ^ 60) × (natAbs (b .floor) ≤ 2 ^ 60) × (a .rest < c) × (b .rest < c) × (c ≤ 65536) ⌝ }
-    ensures { λ r. ⌜ ((x y : ℤ) → a ≡ quotient x c → b ≡ quotient y c → r ≡ quotient (x +ℤ y) c) ⌝ }
+// z × 2^23 / c, rounded up.
+fn scaled(z: i64, c: u32) -> i64
+    requires { ⌜ (natAbs z ≤ 2 ^ 32) × (1 ≤ c) × (c ≤ 65536) ⌝ }
+    ensures { λ r. ⌜ ((pos (2 ^ 23) *ℤ z) ≤ℤ (pos c *ℤ r)) × ((pos c *ℤ r) <ℤ (pos (2 ^ 23) *ℤ z +ℤ pos c)) ⌝ }
 {
-    let floor = a.floor + b.floor;
-    let rest = a.rest + b.rest;
-    if rest < c {
-        return Quotient { floor, rest };
-    }
-    Quotient {
-        floor: floor + 1,
-        rest: rest - c,
-    }
+    let count = c as i64;
+    arith::floor_div(8388608 * z + count - 1, count)
 }
 
-// The place of a glide, at the output that it has done.
-pub fn place_of(g: Ramp) -> Place
-    requires { ⌜ ((g .count ≡ 0 → ⊥) → RampFits g) ⌝ }
-    ensures { λ r. ⌜ ((g .count ≡ 0 → ⊥) → r ≡ glidePlace g) ⌝ }
+// R0 + (R1 − R0) × j / c, of the output j that a glide has done.
+fn place_of(g: Ramp) -> Quotient
+    requires { ⌜ RampFits g ⌝ }
+    ensures { λ r. ⌜ r ≡ quotient (glideSum g (g .done)) (g .count) ⌝ }
 {
     let c = g.count;
-    if c == 0 {
-        let none = Quotient { floor: 0, rest: 0 };
-        return Place {
-            rate: none,
-            slope: none,
-        };
-    }
     let start = g.start as i64;
     let way = g.target as i64 - start;
-    let rate = divided(start * c as i64 + way * g.done as i64, c);
-    let slope = divided(way, c);
-    Place { rate, slope }
+    divided(start * c as i64 + way * g.done as i64, c)
 }
 
-// One output more of the glide.
-pub fn glide_stepped(c: Control, place: Place) -> Placed
-    requires { ⌜ ((c .glide .count ≡ 0 → ⊥) → RampFits (c .glide) × (place ≡ glidePlace (c .glide))) ⌝ }
-    ensures { λ r. ⌜ (r .control ≡ moveGlide c) × ((r .control .glide .count ≡ 0 → ⊥) → r .place ≡ glidePlace (r .control .glide)) ⌝ }
+// The rates of the next outputs: along the glide, or R.
+pub fn rates_of(c: Control) -> Rates
+    requires { ⌜ ControlFits c ⌝ }
+    ensures { λ r. ⌜ RatesOf c r ⌝ }
 {
-    let count = c.glide.count;
+    let g = c.glide;
+    let count = g.count;
     if count == 0 {
-        return Placed { control: c, place };
+        return Rates {
+            start: 8388608 * c.rate as i64,
+            slope: 0,
+        };
     }
-    let before = place.rate;
-    let slope = place.slope;
-    let rate = added(before, slope, count);
-    let control = glide_on(c, rate.floor as u64);
-    Placed {
-        control,
-        place: Place { rate, slope },
+    let place = place_of(g);
+    let part = scaled(place.rest as i64, count);
+    let slope = scaled(g.target as i64 - g.start as i64, count);
+    Rates {
+        start: 8388608 * place.floor + part,
+        slope,
     }
+}
+
+// The rate of output i of a run.
+pub fn rate_at(r: Rates, i: usize) -> u64
+    requires { ⌜ (natAbs (r .start) ≤ 2 ^ 56) × (natAbs (r .slope) ≤ 2 ^ 56) × (i ≤ 64) × (pos 0 ≤ℤ (r .start +ℤ r .slope *ℤ pos i)) ⌝ }
+    ensures { λ x. ⌜ ((R : ℕ) → (pos (2 ^ 23 * R)) ≤ℤ (r .start +ℤ r .slope *ℤ pos i) → (r .start +ℤ r .slope *ℤ pos i) <ℤ (pos (2 ^ 23 * R + 2 ^ 23)) → x ≡ R) ⌝ }
+{
+    (r.start + r.slope * i as i64) as u64 / 8388608
+}
+
+// How many of `count` outputs come before the end of the glide: all where there is none.
+pub fn outputs_left(g: Ramp, count: usize) -> usize
+    requires { ⌜ ((g .count ≡ 0 → ⊥) → RampFits g) ⌝ }
+    ensures { λ r. ⌜ (r ≤ count) × leftOf g r ⌝ }
+{
+    if g.count == 0 {
+        return count;
+    }
+    let left = (g.count - g.done) as usize;
+    if left < count { left } else { count }
+}
+
+// The glide after i outputs more.
+pub fn glide_at(g: Ramp, i: usize) -> Ramp
+    requires { ⌜ (i ≤ 64) × ((g .count ≡ 0 → ⊥) → RampFits g) ⌝ }
+    ensures { λ r. ⌜ r ≡ glideAt g i ⌝ }
+{
+    if g.count == 0 {
+        return g;
+    }
+    ramp_after(g, g.done + i as u32)
 }

@@ -4,7 +4,6 @@ ghost use mathlib.Core.Path.{_≡_};
 ghost use Prim.Native.Nat.{_^_, _≤_, _<_};
 ghost use Rattle.player.specs.Moves.{noGlide, glideRate, rampAfter, moveGlide, fadeTarget, pointPlan, fadeAfter, movePoint};
 ghost use Rattle.player.specs.Sound.{RampSound};
-ghost use Rattle.player.specs.Inner.{glideOn};
 use crate::Control;
 use crate::Fade;
 use crate::Plan;
@@ -36,7 +35,7 @@ pub fn no_ramp() -> Ramp
 }
 
 // A glide after its output j: at rest after the last.
-fn ramp_after(g: Ramp, j: u32) -> Ramp
+pub fn ramp_after(g: Ramp, j: u32) -> Ramp
     ensures { λ r. ⌜ r ≡ rampAfter g j ⌝ }
 {
     if j == g.count {
@@ -50,23 +49,6 @@ fn ramp_after(g: Ramp, j: u32) -> Ramp
     }
 }
 
-// The control after its glide's next output, which has rate `rate`.
-pub fn glide_on(c: Control, rate: u64) -> Control
-    requires { ⌜ (c .glide .done < c .glide .count) × (c .glide .count ≤ 65536) ⌝ }
-    ensures { λ r. ⌜ r ≡ glideOn c rate ⌝ }
-{
-    let g = c.glide;
-    let glide = ramp_after(g, g.done + 1);
-    let fade = c.fade;
-    Control {
-        top: c.top,
-        fade,
-        rate,
-        glide,
-        position: c.position,
-    }
-}
-
 // One output more of the glide.
 pub fn glide_moved(c: Control) -> Control
     requires { ⌜ (c .top ≤ 4) × ((c .glide .count ≡ 0 → ⊥) → RampSound (c .top) (c .glide)) ⌝ }
@@ -76,7 +58,17 @@ pub fn glide_moved(c: Control) -> Control
     if g.count == 0 {
         return c;
     }
-    glide_on(c, glide_rate(g, g.done + 1))
+    let j = g.done + 1;
+    let rate = glide_rate(g, j);
+    let glide = ramp_after(g, j);
+    let fade = c.fade;
+    Control {
+        top: c.top,
+        fade,
+        rate,
+        glide,
+        position: c.position,
+    }
 }
 
 // The level that a point's fade goes to: on to its own where one runs, else to the asked one.

@@ -8,19 +8,19 @@ ghost use Rattle.arith.specs.Lists.{overwrite};
 ghost use Rattle.book.specs.Book.{sizesOf};
 ghost use Rattle.book.specs.Check.{bookNumber};
 ghost use Rattle.levels.specs.Sizes.{levelStart};
-ghost use Rattle.player.specs.Moves.{noFade};
 ghost use Rattle.player.specs.Points.{unit, point};
 ghost use Rattle.player.specs.Sound.{Sound};
-ghost use Rattle.player.specs.Inner.{controlAfter, firstPlan, secondPlan, runPoints, steadyPlan};
+ghost use Rattle.player.specs.Inner.{RampFits, controlAfter, controlAt, firstPlan, secondPlan, runPoints, steadyPlan};
 use crate::Control;
 use crate::Fade;
-use crate::glide::glide_stepped;
-use crate::glide::place_of;
+use crate::glide::glide_at;
+use crate::glide::outputs_left;
+use crate::glide::rate_at;
+use crate::glide::rates_of;
 use crate::moves::glide_moved;
 use crate::moves::point_moved;
 use crate::moves::point_plan;
 use crate::points::point_of;
-use crate::rate::advanced;
 use crate::rate::asked_level;
 use crate::window::steady_points;
 
@@ -30,11 +30,13 @@ pub struct Run {
     pub made: usize,
 }
 
-// A control on a level at a position, with no fade.
-fn moved_to(c: Control, level: u32, position: u64) -> Control
-    ensures { λ r. ⌜ r ≡ record { top = c .top; fade = noFade level; rate = c .rate; glide = c .glide; position = position } ⌝ }
+// A control after i outputs that needed no fade.
+fn control_at(c: Control, i: usize, rate: u64, position: u64) -> Control
+    requires { ⌜ (i ≤ 64) × ((c .glide .count ≡ 0 → ⊥) → RampFits (c .glide)) ⌝ }
+    ensures { λ r. ⌜ r ≡ controlAt c i rate position ⌝ }
 {
-    let glide = c.glide;
+    let level = c.fade.from;
+    let glide = glide_at(c.glide, i);
     Control {
         top: c.top,
         fade: Fade {
@@ -42,37 +44,50 @@ fn moved_to(c: Control, level: u32, position: u64) -> Control
             to: level,
             step: 0,
         },
-        rate: c.rate,
+        rate,
         glide,
         position,
     }
 }
 
-// Moves the control along up to `count` outputs that need no fade, and writes the positions of their points.
+// Moves the control along up to `count` outputs that need no fade, and writes the positions of their points. None from 2^60 − 2^40 on, where P may
+// reach its end.
 fn steady_positions(c: Control, fade: u32, count: usize, positions: &mut [u64]) -> Run
     requires { ⌜ Sound fade c × (c .fade .step ≡ 0) × (count ≤ 64) × (1 ≤ fade) × (fade ≤ 256) × (length (now positions) ≡ 128) ⌝ }
     ensures { λ r. ⌜ (r .made ≤ count) × (r .control ≡ controlAfter fade c (r .made)) × (length (now (positions .exit)) ≡ 128) ⌝ }
     ensures plans { λ r. ⌜ ((k : ℕ) → k < r .made → (firstPlan fade c k ≡ steadyPlan (c .fade .from) (getD (now (positions .exit)) (2 * k) 0)) × (secondPlan fade c k ≡ steadyPlan (c .fade .from) (getD (now (positions .exit)) (2 * k + 1) 0))) ⌝ }
     ensures bounds { λ r. ⌜ ((k : ℕ) → k < 2 * r .made → (c .position ≤ getD (now (positions .exit)) k 0) × (getD (now (positions .exit)) k 0 ≤ c .position + k * unit (c .fade .from)) × (getD (now (positions .exit)) k 0 ≤ 2 ^ 60)) ⌝ }
 {
+    if 1152920405095219200 < c.position {
+        return Run {
+            control: c,
+            made: 0,
+        };
+    }
     let level = c.fade.from;
-    let mut place = place_of(c.glide);
-    let mut control = c;
+    let rates = rates_of(c);
+    let limit = outputs_left(c.glide, count);
+    let mut rate = c.rate;
+    let mut position = c.position;
     let mut i = 0;
-    while i < count {
-        let next = glide_stepped(control, place);
-        let one = next.control;
-        if asked_level(one.rate) != level {
-            return Run { control, made: i };
+    while i < limit {
+        let next = rate_at(rates, i + 1);
+        if asked_level(next) != level {
+            return Run {
+                control: control_at(c, i, rate, position),
+                made: i,
+            };
         }
-        let second = advanced(one.position, one.rate);
-        positions[2 * i] = one.position;
-        positions[2 * i + 1] = second;
-        control = moved_to(one, level, advanced(second, one.rate));
-        place = next.place;
+        positions[2 * i] = position;
+        positions[2 * i + 1] = position + next;
+        rate = next;
+        position += 2 * next;
         i += 1;
     }
-    Run { control, made: i }
+    Run {
+        control: control_at(c, i, rate, position),
+        made: i,
+    }
 }
 
 // Writes the two points of one output, whatever they need.

@@ -10,18 +10,17 @@ use Rattle.arith.proofs.Bits.{reads}
 use Rattle.arith.proofs.Linear.{linear}
 use Rattle.arith.proofs.Integers.{abs-fits}
 use Rattle.player.specs.declared.Ramp.{Ramp}
-use Rattle.player.specs.Inner.{RampFits, quotient, glideSum, glidePlace}
+use Rattle.player.specs.Inner.{RampFits, glideSum}
 use Rattle.player.proofs.Glides.{way-high, start-product, way-product, sum-high}
 use Rattle.player.proofs.glide.place_of.Statement.{statement}
 use Rattle.player.proofs.glide.place_of.Tie as tie
 
--- of a glide under way
-module _ (e : tie.Else1) where
+module _ (e : tie.Start) where
   abbrev g : Ramp
-  g = e .before .args .g
+  g = e .args .g
 
   fits : RampFits g
-  fits = e .before .pre (e .if1 .left)
+  fits = e .pre
 
   -- R0, R1, c and j are the same numbers in an i64
   start-low : g .start < 2 ^ 63
@@ -51,9 +50,6 @@ module _ (e : tie.Else1) where
   sum-fits : SFits w64 (pos (g .start) *ℤ pos (g .count) +ℤ way *ℤ pos (g .done))
   unfolding glideSum
   sum-fits = abs-fits w64 (pos (g .start) *ℤ pos (g .count) +ℤ way *ℤ pos (g .done)) (omega (arith, sum-high g fits (g .done) (omega (arith, fits .done-high))))
-
-returns : tie.Need-returns
-returns c n = absurd (n (c .if1 .taken))
 
 cast-start : tie.Need-cast-start
 cast-start c = let l = start-low (c .before) in simp linear (omega arith)
@@ -86,25 +82,16 @@ divided-requires c κs =
     simp (reads, start-low e, target-low e, count-low e, done-low e, way-fits e, start-fits e, done-fits e, sum-fits e)
     (sum-high (g e) (fits e) (g e .done) (omega (arith, fits e .done-high)), omega (arith, fits e .done-high), fits e .count-high)
 
-divided-requires-2 : tie.Need-divided-requires-2
-divided-requires-2 c κs =
+returns : tie.Need-returns
+unfolding glideSum
+returns c =
     let e = c .before .before .before .before in
-    simp (reads, start-low e, target-low e, way-fits e)
-    (omega (arith, way-high (g e) (fits e)), omega (arith, fits e .done-high), fits e .count-high)
-
-returns-2 : tie.Need-returns-2
-unfolding glidePlace glideSum
-returns-2 c n =
-    let e = c .before .before .before .before .before in
-    let rate = simp (reads, start-low e, target-low e, count-low e, done-low e, way-fits e, start-fits e, done-fits e, sum-fits e) at (c .before .divided .ensures) in
-    let slope = simp (reads, start-low e, target-low e, way-fits e) at (c .divided2 .ensures) in
-    cc
+    simp (reads, start-low e, target-low e, count-low e, done-low e, way-fits e, start-fits e, done-fits e, sum-fits e) at (c .divided .ensures)
 
 pub place-of-spec : {M : Type 1} → statement M
 place-of-spec =
     tie.close
     (tie.spec
-    returns
     cast-start
     cast-way
     sub-way
@@ -114,5 +101,4 @@ place-of-spec =
     mul-divided-2
     add-divided
     divided-requires
-    divided-requires-2
-    returns-2)
+    returns)

@@ -1,13 +1,14 @@
 -- `player::moves::glide_moved` meets its contract: of a sound glide output j + 1 is left, and both its rates lie below 2^32. Assumes nothing.
+use borrow.Author.Needs.{needs}
 use mathlib.Core.Path.{_≡_, ap, _∙_}
-use Prim.Native.Nat.{suc}
+use Prim.Native.Nat.{suc, _+_, _^_, _≤_}
 use native.Mathlib.Omega.{arith}
 use native.Mathlib.Numerals.{add-one}
 use borrow.Author.Tests.{ne-eqb}
+use lib.Pow.{pow-mono}
 use Rattle.arith.proofs.Tests.{tests}
-use Rattle.player.specs.Moves.{glideRate, moveGlide}
-use Rattle.player.specs.Inner.{RampFits}
-use Rattle.player.proofs.Glides.{ramp-fits}
+use Rattle.player.specs.Moves.{glideRate, rampAfter, moveGlide}
+use Rattle.player.specs.Sound.{RampSound}
 use Rattle.player.proofs.moves.glide_moved.Statement.{statement}
 use Rattle.player.proofs.moves.glide_moved.Tie as tie
 
@@ -16,26 +17,35 @@ unfolding moveGlide
 returns c = search tests
 
 -- of a glide under way
-fits : (c : tie.Else1) → RampFits (c .before .before .before .args .c .glide)
-fits c = let s = c .before .before .before in ramp-fits (s .pre .0) (s .pre .1 (c .if1 .left))
+module _ (c : tie.Else1) where
+  ramp : RampSound (c .before .before .before .args .c .top) (c .before .before .before .args .c .glide)
+  ramp = c .before .before .before .pre .1 (c .if1 .left)
 
-add-glide-rate : tie.Need-add-glide-rate
-add-glide-rate c = let f = fits (c .before) in omega arith
+  -- 2^(28 + T) is at most 2^32
+  rates : 2 ^ (28 + c .before .before .before .args .c .top) ≤ 2 ^ 32
+  rates = let t : 28 + c .before .before .before .args .c .top ≤ 32 = omega arith in pow-mono t
+
+add-j : tie.Need-add-j
+add-j c = let r = ramp (c .before) in omega arith
 
 glide-rate-requires : tie.Need-glide-rate-requires
-glide-rate-requires c κs = let f = fits (c .before) in (f .start-high, f .target-high, omega arith, omega arith, f .count-high)
+glide-rate-requires c κs =
+    let r = ramp (c .before) in
+    let p = rates (c .before) in
+    (omega arith, omega arith, omega arith, omega arith, r .count-high)
 
-glide-on-requires : tie.Need-glide-on-requires
-glide-on-requires c κs = let f = fits (c .before .before) in (f .done-high, f .count-high)
+ramp-after-requires : tie.Need-ramp-after-requires
+ramp-after-requires c κs = search needs
 
 returns-2 : tie.Need-returns-2
 unfolding moveGlide
 returns-2 c =
-    let left = c .before .before .before in
+    let left = c .before .before .before .before in
     let g = left .before .before .before .args .c .glide in
-    let rate : c .before .glide-rate .result ≡ glideRate g (suc (g .done)) = c .before .glide-rate .ensures ∙ ap (glideRate g) (add-one (g .done)) in
+    let rate : c .before .before .glide-rate .result ≡ glideRate g (suc (g .done)) = c .before .before .glide-rate .ensures ∙ ap (glideRate g) (add-one (g .done)) in
+    let glide : c .before .ramp-after .result ≡ rampAfter g (suc (g .done)) = c .before .ramp-after .ensures ∙ ap (rampAfter g) (add-one (g .done)) in
     simp (ne-eqb (g .count) 0 (left .if1 .left)) (cc)
 
 pub glide-moved-spec : {M : Type 1} → statement M
 glide-moved-spec =
-    tie.close (tie.spec returns add-glide-rate glide-rate-requires glide-on-requires returns-2)
+    tie.close (tie.spec returns add-j glide-rate-requires ramp-after-requires returns-2)

@@ -1,135 +1,187 @@
 -- `player::runs::steady_positions` meets its contract. The loop's invariant: `Along`, of the outputs so far. Assumes nothing.
 use borrow.Author.Needs.{needs}
-use mathlib.Core.Path.{_≡_, sym, ap, _∙_}
-use Prim.Native.Nat.{ℕ, _-_, _≤_}
+use mathlib.Core.Path.{_≡_, refl, sym, subst, _∙_}
+use Prim.Native.Nat.{ℕ, suc, _+_, _-_, _*_, _^_, _≤_, _<_}
 use native.Mathlib.Numerals.{add-one}
 use native.Mathlib.Omega.{arith}
 use lib.ListN.{length, length-set}
+use Rattle.arith.proofs.Integers.{≤ℤ-trans, pos-≤ℤ}
 use Rattle.player.specs.declared.Control.{Control}
-use Rattle.player.specs.declared.Ramp.{Ramp}
+use Rattle.player.specs.declared.glide.Rates.{Rates}
 use Rattle.player.specs.Rate.{askedLevel}
-use Rattle.player.specs.Moves.{noFade, moveGlide}
-use Rattle.player.specs.Inner.{RampFits, glidePlace}
-use Rattle.player.proofs.Glides.{ramp-fits}
-use Rattle.player.proofs.Along.{Along, along-none, along-next}
+use Rattle.player.specs.Inner.{RampFits, RatesOf, leftOf, rateAt, controlAfter, controlAt}
+use Rattle.player.proofs.Glides.{still-rate, control-fits, control-none}
+use Rattle.player.proofs.Along.{Along, along-none, run-high, along-run}
 use Rattle.player.proofs.runs.steady_positions.Statement.{statement}
 use Rattle.player.proofs.runs.steady_positions.Tie as tie
 
 abbrev Inv-loop : tie.InvT-loop
-Inv-loop fade count positions₀ level place₀ control₀ i₀ positions place control i = (i ≤ count) × (length positions ≡ 128) × Along fade control₀ positions control i × ((control .glide .count ≡ 0 → ⊥) → place ≡ glidePlace (control .glide))
+Inv-loop c fade count positions₀ level rates limit rate₀ position₀ i₀ positions rate position i = (i ≤ limit) × (length positions ≡ 128) × Along fade c positions (controlAt c i rate position) i × (c .glide .count ≡ 0 → rate ≡ c .rate)
 
 abbrev μ-loop : tie.MeasureT-loop
-μ-loop fade count positions₀ level place₀ control₀ i₀ positions place control i = count - i
+μ-loop c fade count positions₀ level rates limit rate₀ position₀ i₀ positions rate position i = limit - i
 
 -- what the run so far says of the whole
 module _ (a : tie.At-loop Inv-loop μ-loop) where
   abbrev s : tie.Start Inv-loop μ-loop
-  s = a .before .before .before
+  s = a .before .before .before .before .before .before
+
+  abbrev d : Control
+  d = s .args .c
 
   abbrev F : ℕ
   F = s .args .fade
 
-  along : Along F (s .args .c) (a .loop .positions) (a .loop .control) (a .loop .i)
+  abbrev limit : ℕ
+  limit = a .before .outputs-left .result
+
+  abbrev i : ℕ
+  i = a .loop .i
+
+  along : Along F d (a .loop .positions) (controlAt d i (a .loop .rate) (a .loop .position)) i
   along = a .loop .inv .2
 
-  -- its glide's numbers fit
-  fits : (a .loop .control .glide .count ≡ 0 → ⊥) → RampFits (a .loop .control .glide)
-  fits n = ramp-fits (along .sound .top-high) (along .sound .glide-sound n)
+  limit-high : limit ≤ 64
+  limit-high = omega (arith, a .before .outputs-left .ensures .0, s .pre .2)
 
--- a turn that goes on
-module _ (e : tie.Else1 Inv-loop μ-loop) where
+  made-high : i ≤ s .args .count
+  made-high = omega (arith, a .before .outputs-left .ensures .0, a .loop .inv .0)
+
+  i-high : i ≤ 64
+  i-high = omega (arith, limit-high, a .loop .inv .0)
+
+  inside : d .position ≤ 2 ^ 60 - 2 ^ 40
+  inside = omega (arith, a .before .before .before .if1 .left)
+
+-- a turn
+module _ (b : tie.In-loop Inv-loop μ-loop) where
   abbrev turn : tie.At-loop Inv-loop μ-loop
-  turn = e .before .before .before .before .before
+  turn = b .before
 
-  abbrev x : Control
-  x = e .before .before .before .glide-stepped .result .control
+  near : suc (i turn) ≤ 64
+  near = omega (arith, b .loop-test .taken, limit-high turn)
 
-  one-is : x ≡ moveGlide (turn .loop .control)
-  one-is = e .before .before .before .glide-stepped .ensures .0
+  left : leftOf (d turn .glide) (suc (i turn))
+  left n = omega (arith, b .loop-test .taken, turn .before .outputs-left .ensures .1 n)
 
-  asked : askedLevel (x .rate) ≡ s turn .args .c .fade .from
-  asked = sym (e .before .asked-level .ensures) ∙ e .if1 .left
+  abbrev rates : Rates
+  rates = turn .before .before .rates-of .result
 
-place-of-requires : tie.Need-place-of-requires Inv-loop μ-loop
-place-of-requires c κs = let s = c .before in λ n. ramp-fits (s .pre .0 .top-high) (s .pre .0 .glide-sound n)
+  rates-are : RatesOf (d turn) rates
+  rates-are = turn .before .before .rates-of .ensures
+
+-- its rate
+module _ (r : tie.After-rate-at Inv-loop μ-loop) where
+  abbrev inner : tie.In-loop Inv-loop μ-loop
+  inner = r .before
+
+  next-is : r .rate-at .result ≡ rateAt (d (turn inner)) (suc (i (turn inner)))
+  next-is =
+      let j = suc (i (turn inner)) in
+      let given = rw (add-one (i (turn inner))) at (r .rate-at .ensures) in
+      given (rateAt (d (turn inner)) j) (rates-are inner .low j (near inner) (left inner)) (rates-are inner .high j (near inner) (left inner))
+
+  high : turn inner .loop .position + 2 * r .rate-at .result ≤ 2 ^ 60
+  high = run-high (turn inner .loop .position) (along (turn inner)) (s (turn inner) .pre .0) (near inner) (left inner) (turn inner .loop .inv .3) next-is (inside (turn inner))
+
+returns : tie.Need-returns Inv-loop μ-loop
+unfolding controlAfter
+returns c = let s = c .before .before .before in ((omega arith, refl, s .pre .5), ((λ k l. absurd (omega arith)), (λ k l. absurd (omega arith))))
+
+rates-of-requires : tie.Need-rates-of-requires Inv-loop μ-loop
+rates-of-requires c κs = control-fits (c .before .before .before .pre .0)
+
+outputs-left-requires : tie.Need-outputs-left-requires Inv-loop μ-loop
+outputs-left-requires c κs = control-fits (c .before .before .before .before .pre .0) .glide-fits
 
 loop-holds : tie.Need-loop-holds Inv-loop μ-loop
 loop-holds c =
-    let s = c .before .before in
-    (omega arith, s .pre .5, along-none (s .args .fade) (s .args .c) (s .args .positions .now) (s .pre .0) (s .pre .1), c .place-of .ensures)
+    let s = c .before .before .before .before .before in
+    let x = s .args .c in
+    let e : x ≡ controlAt x 0 (x .rate) (x .position) = sym (control-none (s .pre .0) (s .pre .1)) in
+    (omega arith, s .pre .5, subst (λ w. Along (s .args .fade) x (s .args .positions .now) w 0) e (along-none (s .args .fade) x (s .args .positions .now) (s .pre .0) (s .pre .1)), λ z. refl)
 
-glide-stepped-requires : tie.Need-glide-stepped-requires Inv-loop μ-loop
-glide-stepped-requires c κs n = let a = c .before in (fits a n, a .loop .inv .3 n)
+add-rate-at : tie.Need-add-rate-at Inv-loop μ-loop
+add-rate-at c = omega (arith, near c)
+
+rate-at-requires : tie.Need-rate-at-requires Inv-loop μ-loop
+rate-at-requires c κs =
+    let low = rates-are c .low (suc (i (turn c))) (near c) (left c) in
+    rw (add-one (i (turn c))) (rates-are c .start-size, rates-are c .slope-size, near c, ≤ℤ-trans (pos-≤ℤ (omega arith)) low)
 
 asked-level-requires : tie.Need-asked-level-requires Inv-loop μ-loop
 asked-level-requires c κs = search needs
 
-returns : tie.Need-returns Inv-loop μ-loop
-returns c =
-    let a = c .before .before .before .before .before in
-    ((a .loop .inv .0, along a .after, a .loop .inv .1), (along a .plans, along a .bounds))
+control-at-requires : tie.Need-control-at-requires Inv-loop μ-loop
+control-at-requires c κs = let a = turn (inner (c .before .before)) in (i-high a, control-fits (s a .pre .0) .glide-fits)
 
 same-length : tie.Need-same-length Inv-loop μ-loop
-same-length c = let a = c .before .before .before .before .before in a .loop .inv .1 ∙ sym (s a .pre .5)
+same-length c = let a = turn (inner (c .before .before .before)) in a .loop .inv .1 ∙ sym (s a .pre .5)
 
-advanced-requires : tie.Need-advanced-requires Inv-loop μ-loop
-advanced-requires c κs = search needs
+returns-2 : tie.Need-returns-2 Inv-loop μ-loop
+returns-2 c =
+    let a = turn (inner (c .before .before .before)) in
+    ((made-high a, c .control-at .ensures ∙ along a .after, a .loop .inv .1), (along a .plans, along a .bounds))
 
 mul-positions : tie.Need-mul-positions Inv-loop μ-loop
-mul-positions c = omega arith
+mul-positions c = let b = inner (c .before .before) in omega (arith, near b)
 
 mul-positions-2 : tie.Need-mul-positions-2 Inv-loop μ-loop
-mul-positions-2 c = omega arith
+mul-positions-2 c = let b = inner (c .before .before) in omega (arith, near b)
 
 slice-write-positions : tie.Need-slice-write-positions Inv-loop μ-loop
-slice-write-positions c = omega (arith, c .before .before .before .before .before .before .loop .inv .1)
-
-mul-positions-3 : tie.Need-mul-positions-3 Inv-loop μ-loop
-mul-positions-3 c = omega arith
+slice-write-positions c = let b = inner (c .before .before) in omega (arith, near b, turn b .loop .inv .1)
 
 add-positions : tie.Need-add-positions Inv-loop μ-loop
-add-positions c = omega arith
+add-positions c = let h = high (c .before .before) in omega arith
+
+mul-positions-3 : tie.Need-mul-positions-3 Inv-loop μ-loop
+mul-positions-3 c = let b = inner (c .before .before) in omega (arith, near b)
+
+add-positions-2 : tie.Need-add-positions-2 Inv-loop μ-loop
+add-positions-2 c = let b = inner (c .before .before) in omega (arith, near b)
 
 mul-positions-4 : tie.Need-mul-positions-4 Inv-loop μ-loop
-mul-positions-4 c = omega arith
+mul-positions-4 c = let b = inner (c .before .before) in omega (arith, near b)
 
 slice-write-positions-2 : tie.Need-slice-write-positions-2 Inv-loop μ-loop
-slice-write-positions-2 c = simp length-set (omega (arith, c .before .before .before .before .before .before .loop .inv .1))
+slice-write-positions-2 c = let b = inner (c .before .before) in simp length-set (omega (arith, near b, turn b .loop .inv .1))
 
-advanced-requires-2 : tie.Need-advanced-requires-2 Inv-loop μ-loop
-advanced-requires-2 c κs = search needs
+mul-position : tie.Need-mul-position Inv-loop μ-loop
+mul-position c = let h = high (c .before .before) in omega arith
 
-moved-to-requires : tie.Need-moved-to-requires Inv-loop μ-loop
-moved-to-requires c κs = search needs
+add-position : tie.Need-add-position Inv-loop μ-loop
+add-position c = let h = high (c .before .before) in omega arith
 
 add-i : tie.Need-add-i Inv-loop μ-loop
-add-i c = omega arith
+add-i c = let b = inner (c .before .before) in omega (arith, near b)
 
 loop-less : tie.Need-loop-less Inv-loop μ-loop
-loop-less c = omega arith
+loop-less c = let b = inner (c .before .before) in omega (arith, b .loop-test .taken)
 
 loop-again : tie.Need-loop-again Inv-loop μ-loop
 loop-again c =
-    let m = c .before in
-    let q = m .before in
-    let p = q .before in
-    let e = p .before in
-    let a = turn e in
+    let r = c .before .before in
+    let b = inner r in
+    let a = turn b in
     let l = a .loop .inv .1 in
-    let control = m .moved-to .ensures ∙ ap (λ P. record { top = x e .top; fade = noFade (s a .args .c .fade .from); rate = x e .rate; glide = x e .glide; position = P }) (q .advanced2 .ensures) in
-    let glide = ap (λ (w : Control). w .glide) control in
-    let more = e .before .before .before .before .loop-test .taken in (
-      omega (arith, more),
+    let asked = sym (c .before .asked-level .ensures) ∙ c .if2 .left in (
+      omega (arith, b .loop-test .taken),
       simp length-set l,
-      rw (add-one (a .loop .i)) (along-next (along a) (one-is e) (asked e) (p .advanced .ensures) control (s a .pre .3) (omega (arith, l, more, s a .pre .2))),
-      λ n. e .before .before .before .glide-stepped .ensures .1 (λ z. n (ap (λ (r : Ramp). r .count) glide ∙ z)) ∙ ap glidePlace (sym glide),
+      rw (add-one (i a)) (along-run (a .loop .position) (along a) (s a .pre .0) (near b) (left b) (a .loop .inv .3) (next-is r) (inside a) asked (s a .pre .3) (omega (arith, l, near b))),
+      λ z. next-is r ∙ still-rate (d a) z (suc (i a)),
     )
 
-same-length-2 : tie.Need-same-length-2 Inv-loop μ-loop
-same-length-2 c = c .before .loop .inv .1 ∙ sym (s (c .before) .pre .5)
+control-at-requires-2 : tie.Need-control-at-requires-2 Inv-loop μ-loop
+control-at-requires-2 c κs = let a = c .before in (i-high a, control-fits (s a .pre .0) .glide-fits)
 
-returns-2 : tie.Need-returns-2 Inv-loop μ-loop
-returns-2 c = let a = c .before in ((a .loop .inv .0, along a .after, a .loop .inv .1), (along a .plans, along a .bounds))
+same-length-2 : tie.Need-same-length-2 Inv-loop μ-loop
+same-length-2 c = let a = c .before .before in a .loop .inv .1 ∙ sym (s a .pre .5)
+
+returns-3 : tie.Need-returns-3 Inv-loop μ-loop
+returns-3 c =
+    let a = c .before .before in
+    ((made-high a, c .control-at2 .ensures ∙ along a .after, a .loop .inv .1), (along a .plans, along a .bounds))
 
 pub steady-positions-spec : {M : Type 1} → statement M
 steady-positions-spec =
@@ -137,24 +189,29 @@ steady-positions-spec =
     (tie.spec
     Inv-loop
     μ-loop
-    place-of-requires
-    loop-holds
-    glide-stepped-requires
-    asked-level-requires
-    same-length
     returns
-    advanced-requires
+    rates-of-requires
+    outputs-left-requires
+    loop-holds
+    add-rate-at
+    rate-at-requires
+    asked-level-requires
+    control-at-requires
+    same-length
+    returns-2
     mul-positions
     mul-positions-2
     slice-write-positions
-    mul-positions-3
     add-positions
+    mul-positions-3
+    add-positions-2
     mul-positions-4
     slice-write-positions-2
-    advanced-requires-2
-    moved-to-requires
+    mul-position
+    add-position
     add-i
     loop-less
     loop-again
+    control-at-requires-2
     same-length-2
-    returns-2)
+    returns-3)
