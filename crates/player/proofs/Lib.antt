@@ -9,6 +9,7 @@ pub mod Windows
 pub mod Staged
 pub mod Mix
 pub mod Split
+pub mod Raised
 pub mod Blocks
 pub mod RunPoints
 pub mod Steady
@@ -16,3 +17,6 @@ pub mod Along
 pub mod Filled
 pub mod Written
 pub mod Lines
+pub mod RowSums
+pub mod Newest
+pub mod Tables

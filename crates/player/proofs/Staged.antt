@@ -18,13 +18,14 @@ use Rattle.book.specs.Book.{sizesOf, impulse, difference}
 use Rattle.book.proofs.Accepted.{Accepted, sizes-bounded}
 use Rattle.player.specs.Points.{limitedWord, unit, phaseAt, offsetAt, coefficient, valueSum, levelValue}
 use Rattle.player.specs.Inner.{windowSum, rowSum, windowValue}
-use Rattle.player.proofs.Values.{unit-pos}
+use Rattle.player.proofs.Values.{unit-pos, phase-below}
+use Rattle.player.proofs.Split.{rowsFrom, impulseSum, differenceSum, impulseSum-bound, differenceSum-bound, levelValue-split}
 use Rattle.player.proofs.Windows.{windowWord, word-bound, inside-word}
 
 -- ---- the window's words
 
 -- a row over the words from `first` on
-pub rowSum-window : (window row : List ℤ) (first half n : ℕ) → ((k : ℕ) → k < first + n → natAbs (at window k) ≤ 2 ^ 27)
+rowSum-window : (window row : List ℤ) (first half n : ℕ) → ((k : ℕ) → k < first + n → natAbs (at window k) ≤ 2 ^ 27)
     → rowSum (drop first window) row n ≡ windowSum window 4 (first + half) half row n
 unfolding rowSum windowSum
 rowSum-window window row first half n small = sum-ext n (λ i h. ap (λ x. x *ℤ at row (n - suc i)) (same i h))
@@ -37,17 +38,77 @@ rowSum-window window row first half n small = sum-ext n (λ i h. ap (λ x. x *�
 
 -- ---- the position of a place in the window
 
-abbrev pub positionOf : List ℤ → ℕ → ℕ
+abbrev positionOf : List ℤ → ℕ → ℕ
 positionOf b place = place + (sizesOf b .taps / 2 - 1) * 2 ^ 32
 
 module _ (b : List ℤ) (place : ℕ) where
-  pub position-rest : positionOf b place % unit 4 ≡ place % 2 ^ 32
+  position-rest : positionOf b place % unit 4 ≡ place % 2 ^ 32
   unfolding unit
   position-rest = add-mul-mod-self-right place (sizesOf b .taps / 2 - 1) (2 ^ 32)
 
-  pub position-word : positionOf b place / unit 4 ≡ place / 2 ^ 32 + (sizesOf b .taps / 2 - 1)
+  position-word : positionOf b place / unit 4 ≡ place / 2 ^ 32 + (sizesOf b .taps / 2 - 1)
   unfolding unit
   position-word = add-mul-div-right place (sizesOf b .taps / 2 - 1) (pow-pos 32)
+
+-- ---- a window's value, from the sums over its words
+
+module _ (b : List ℤ) (a : Accepted b) (place : ℕ) where
+  abbrev N : ℕ
+  N = sizesOf b .taps
+
+  abbrev M : ℕ
+  M = sizesOf b .phases
+
+  abbrev position : ℕ
+  position = positionOf b place
+
+  -- as the code computes it
+  abbrev pub phaseOf : ℕ
+  phaseOf = place % 2 ^ 32 * M / 2 ^ 32
+
+  scaled-is : place % 2 ^ 32 * M ≡ position % unit 4 * M
+  scaled-is = ap (λ n. n * M) (sym (position-rest b place))
+
+  phase-is : phaseOf ≡ phaseAt b 4 position
+  unfolding phaseAt unit
+  phase-is = ap (λ n. n / 2 ^ 32) scaled-is
+
+  offset-is : place % 2 ^ 32 * M % 2 ^ 32 ≡ offsetAt b 4 position
+  unfolding offsetAt unit
+  offset-is = ap (λ n. n % 2 ^ 32) scaled-is
+
+  pub phase-low : phaseOf < M
+  phase-low = rw phase-is (phase-below b a 4 position)
+
+  first-is : position / unit 4 + 1 ≡ place / 2 ^ 32 + N / 2
+  first-is = omega (arith, position-word b place, sizes-bounded b a .taps-low)
+
+  module _ (window : List ℤ) (small : (k : ℕ) → k < place / 2 ^ 32 + N → natAbs (at window k) ≤ 2 ^ 27) where
+    abbrev pub windowImpulses : ℤ
+    windowImpulses = rowSum (drop (place / 2 ^ 32) window) (rowsFrom b phaseOf) N
+
+    abbrev pub windowDifferences : ℤ
+    windowDifferences = rowSum (drop (place / 2 ^ 32) window) (drop (M * N) (rowsFrom b phaseOf)) N
+
+    row-is : (row : List ℤ) → rowSum (drop (place / 2 ^ 32) window) row N ≡ windowSum window 4 (position / unit 4 + 1) (N / 2) row N
+    row-is row = rowSum-window window row (place / 2 ^ 32) (N / 2) N small ∙ ap (λ n. windowSum window 4 n (N / 2) row N) (sym first-is)
+
+    impulses-are : windowImpulses ≡ impulseSum b window 4 position
+    impulses-are = row-is (rowsFrom b phaseOf) ∙ ap (λ q. windowSum window 4 (position / unit 4 + 1) (N / 2) (rowsFrom b q) N) phase-is
+
+    differences-are : windowDifferences ≡ differenceSum b window 4 position
+    differences-are = row-is (drop (M * N) (rowsFrom b phaseOf)) ∙ ap (λ q. windowSum window 4 (position / unit 4 + 1) (N / 2) (drop (M * N) (rowsFrom b q)) N) phase-is
+
+    pub impulses-small : natAbs windowImpulses ≤ 2 ^ 44
+    impulses-small = rw impulses-are (omega (arith, impulseSum-bound b a window 4 position))
+
+    pub differences-small : natAbs windowDifferences ≤ 2 ^ 45
+    differences-small = rw differences-are (omega (arith, differenceSum-bound b a window 4 position))
+
+    pub windowValue-split : {x y : ℤ} → x ≡ windowImpulses → y ≡ windowDifferences
+        → near (pos (2 ^ 32) *ℤ x +ℤ pos (place % 2 ^ 32 * M % 2 ^ 32) *ℤ y) (16384 * 2 ^ 32) ≡ windowValue b window place
+    unfolding windowValue unit
+    windowValue-split f g = levelValue-split b a window 4 position (f ∙ impulses-are) (g ∙ differences-are) offset-is
 
 -- ---- a level's value, from a window
 

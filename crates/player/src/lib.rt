@@ -1,5 +1,6 @@
 // The driving-tone player. A voice goes from state to state by `Voice::open`, `order`, `seek` and `play`.
 
+mod biased; // level values four at a time, from raised words
 mod calls; // open, order, seek and play
 mod decimation; // outputs from a line of points
 mod glide; // a glide along a run of outputs
@@ -9,6 +10,7 @@ mod points; // level values and points
 mod rate; // rates as f32
 mod refusals; // the numbers of the calls
 mod runs; // runs of outputs: positions and points
+mod table; // a book's phases and a window's words, raised
 mod window; // level values at a run of positions
 
 // The opening card: a rate, and the top level T.

@@ -1,7 +1,8 @@
 // Blocks of outputs: run after run along a line of points.
 
+ghost use mathlib.Core.Bool.{true};
 ghost use mathlib.Core.Path.{_≡_};
-ghost use Prim.Native.Nat.{ℕ, _+_, _^_, _≤_, _<_, min};
+ghost use Prim.Native.Nat.{ℕ, _+_, _*_, _^_, _≤_, _<_, min};
 ghost use lib.IntN.{natAbs};
 ghost use lib.ListN.{length};
 ghost use Rattle.arith.specs.Lists.{at, part};
@@ -10,10 +11,11 @@ ghost use Rattle.book.specs.Check.{bookNumber};
 ghost use Rattle.levels.specs.Sizes.{levelStart};
 ghost use Rattle.player.specs.Outputs.{voiceAfter, outputs};
 ghost use Rattle.player.specs.Sound.{Sound};
-ghost use Rattle.player.specs.Inner.{lineOf};
+ghost use Rattle.player.specs.Inner.{TableOf, lineOf};
 use crate::Voice;
 use crate::decimation::write_outputs;
 use crate::runs::next_points;
+use crate::table::stage_rows;
 
 // The points of a history, widened to 64 bits.
 fn widened(history: [i32; 81]) -> [i64; 81]
@@ -79,8 +81,16 @@ fn run_length(left: usize) -> usize
     64
 }
 
-// Fills the output slice, and hands back the voice after it.
-pub fn fill(v: Voice, book: &[i32], store: &[i32], samples: usize, out: &mut [i16]) -> Voice
+// Fills the output slice with the help of a book's table, or of none, and hands back the voice after it.
+fn fill_by(
+    table: &[i64],
+    v: Voice,
+    book: &[i32],
+    store: &[i32],
+    samples: usize,
+    out: &mut [i16],
+) -> Voice
+    requires { ⌜ ((length (now table) ≡ 0 → ⊥) → TableOf (now book) (now table)) ⌝ }
     requires { ⌜ (bookNumber (now book) ≡ 0) × (samples ≤ 1048576) × Sound (sizesOf (now book) .fade) (v .control) ⌝ }
     requires { ⌜ (levelStart samples (v .control .top + 1) ≤ length (now store)) × ((k : ℕ) → k < 81 → natAbs (at (v .history) k) ≤ 2 ^ 29) ⌝ }
     ensures voice { λ r. ⌜ r ≡ voiceAfter (now (book .entry)) (now (store .entry)) samples v (length (now (out .entry))) ⌝ }
@@ -111,6 +121,7 @@ pub fn fill(v: Voice, book: &[i32], store: &[i32], samples: usize, out: &mut [i1
             store,
             &starts,
             samples,
+            table,
         );
         let made = r.made;
         write_outputs(book, decimation, &line, made, i, out);
@@ -120,4 +131,32 @@ pub fn fill(v: Voice, book: &[i32], store: &[i32], samples: usize, out: &mut [i1
     }
     let history = narrowed(newest(line, 128));
     Voice { control, history }
+}
+
+// Whether to make a table: it has room for 832 impulses with a word a phase, and some 100 outputs pay for it.
+fn table_pays(outputs: usize, phases: usize, taps: usize) -> bool
+    requires { ⌜ (phases ≤ 128) × (taps ≤ 24) ⌝ }
+    ensures { λ r. ⌜ (r ≡ true → phases * (taps + 1) ≤ 832) ⌝ }
+{
+    if outputs < 256 {
+        return false;
+    }
+    phases * (taps + 1) <= 832
+}
+
+// Fills the output slice, and hands back the voice after it.
+pub fn fill(v: Voice, book: &[i32], store: &[i32], samples: usize, out: &mut [i16]) -> Voice
+    requires { ⌜ (bookNumber (now book) ≡ 0) × (samples ≤ 1048576) × Sound (sizesOf (now book) .fade) (v .control) ⌝ }
+    requires { ⌜ (levelStart samples (v .control .top + 1) ≤ length (now store)) × ((k : ℕ) → k < 81 → natAbs (at (v .history) k) ≤ 2 ^ 29) ⌝ }
+    ensures voice { λ r. ⌜ r ≡ voiceAfter (now (book .entry)) (now (store .entry)) samples v (length (now (out .entry))) ⌝ }
+    ensures words { λ r. ⌜ now (out .exit) ≡ outputs (now (book .entry)) (now (store .entry)) samples v (length (now (out .entry))) ⌝ }
+{
+    let s = book::read_sizes(book);
+    if table_pays(out.len(), s.phases, s.taps) {
+        let mut table = [0i64; 1664];
+        stage_rows(&mut table, book, s.phases, s.taps);
+        return fill_by(&table, v, book, store, samples, out);
+    }
+    let none = [0i64; 1];
+    fill_by(&none[0..0], v, book, store, samples, out)
 }

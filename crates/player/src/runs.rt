@@ -10,7 +10,7 @@ ghost use Rattle.book.specs.Check.{bookNumber};
 ghost use Rattle.levels.specs.Sizes.{levelStart};
 ghost use Rattle.player.specs.Points.{unit, point};
 ghost use Rattle.player.specs.Sound.{Sound};
-ghost use Rattle.player.specs.Inner.{RampFits, controlAfter, controlAt, firstPlan, secondPlan, runPoints, steadyPlan};
+ghost use Rattle.player.specs.Inner.{RampFits, TableOf, controlAfter, controlAt, firstPlan, secondPlan, runPoints, steadyPlan};
 use crate::Control;
 use crate::Fade;
 use crate::glide::glide_at;
@@ -148,10 +148,12 @@ fn steady_run(
     store: &[i32],
     starts: &[usize; 6],
     samples: usize,
+    table: &[i64],
 ) -> Run
     requires { ⌜ (bookNumber (now book) ≡ 0) × (phases ≡ sizesOf (now book) .phases) × (taps ≡ sizesOf (now book) .taps) × (fade ≡ sizesOf (now book) .fade) ⌝ }
     requires { ⌜ (samples ≤ 1048576) × ((j : ℕ) → j < 6 → getD (now starts) j 0 ≡ levelStart samples j) ⌝ }
     requires { ⌜ Sound fade c × (levelStart samples (c .top + 1) ≤ length (now store)) × (length (now line) ≡ 209) × (length (now positions) ≡ 128) × (count ≤ 64) × (c .fade .step ≡ 0) ⌝ }
+    requires { ⌜ ((length (now table) ≡ 0 → ⊥) → TableOf (now book) (now table)) ⌝ }
     ensures { λ r. ⌜ (r .made ≤ count) × (r .control ≡ controlAfter fade c (r .made)) × (length (now (positions .exit)) ≡ 128) ⌝ }
     ensures points { λ r. ⌜ now (line .exit) ≡ overwrite (now (line .entry)) (128 - 2 * r .made) (runPoints (point (now (book .entry)) (now (store .entry)) samples) fade c (r .made)) ⌝ }
 {
@@ -173,6 +175,7 @@ fn steady_run(
         taps,
         &store[start..end],
         level,
+        table,
     );
     r
 }
@@ -190,10 +193,12 @@ pub fn next_points(
     store: &[i32],
     starts: &[usize; 6],
     samples: usize,
+    table: &[i64],
 ) -> Run
     requires { ⌜ (bookNumber (now book) ≡ 0) × (phases ≡ sizesOf (now book) .phases) × (taps ≡ sizesOf (now book) .taps) × (fade ≡ sizesOf (now book) .fade) ⌝ }
     requires { ⌜ (samples ≤ 1048576) × ((j : ℕ) → j < 6 → getD (now starts) j 0 ≡ levelStart samples j) ⌝ }
     requires { ⌜ Sound fade c × (levelStart samples (c .top + 1) ≤ length (now store)) × (length (now line) ≡ 209) × (length (now positions) ≡ 128) × (1 ≤ count) × (count ≤ 64) ⌝ }
+    requires { ⌜ ((length (now table) ≡ 0 → ⊥) → TableOf (now book) (now table)) ⌝ }
     ensures { λ r. ⌜ (1 ≤ r .made) × (r .made ≤ count) × (r .control ≡ controlAfter fade c (r .made)) × (length (now (positions .exit)) ≡ 128) ⌝ }
     ensures points { λ r. ⌜ now (line .exit) ≡ overwrite (now (line .entry)) (128 - 2 * r .made) (runPoints (point (now (book .entry)) (now (store .entry)) samples) fade c (r .made)) ⌝ }
 {
@@ -212,6 +217,7 @@ pub fn next_points(
         store,
         starts,
         samples,
+        table,
     );
     if r.made != 0 {
         return r;

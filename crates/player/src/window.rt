@@ -2,20 +2,23 @@
 
 ghost use mathlib.Core.Path.{_≡_};
 ghost use mathlib.Core.Bool.{true};
+ghost use mathlib.Core.List.{List};
 ghost use Prim.Native.Nat.{ℕ, suc, _+_, _-_, _*_, _/_, _%_, _^_, _≤_, _<_};
-ghost use lib.IntN.{pos, natAbs, _-ℤ_};
+ghost use lib.IntN.{ℤ, pos, natAbs, _-ℤ_};
 ghost use lib.ListN.{length, getD, drop};
 ghost use lib.Signed.{_≤ℤ_};
 ghost use Rattle.arith.specs.Lists.{at, tabulate, overwrite};
 ghost use Rattle.book.specs.Book.{sizesOf};
 ghost use Rattle.book.specs.Check.{bookNumber};
 ghost use Rattle.player.specs.Points.{limitedWord, unit, levelValue};
-ghost use Rattle.player.specs.Inner.{rowSum, windowValue};
+ghost use Rattle.player.specs.Inner.{rowSum, windowValue, valuesOver, TableOf};
+use crate::biased::four_points;
 use crate::points::Sums;
 use crate::points::level_bound;
 use crate::points::limited;
 use crate::points::mixed;
 use crate::points::word_at;
+use crate::table::raise_words;
 
 // The larger of two numbers.
 fn larger(a: i32, b: i32) -> i32
@@ -155,11 +158,12 @@ fn window_value(book: &[i32], phases: usize, taps: usize, window: &[i64], place:
     tap_value(book, phases, taps, window, place)
 }
 
-// A window's values at a run's positions, written to a line of points, newest first. The window begins at `start`, and `up` shifts a
-// distance from there to 2^-32 words.
+// A window's values at a run's positions from position `made` on, written to a line of points, newest first. The window begins at `start`, and
+// `up` shifts a distance from there to 2^-32 words.
 fn window_points(
     line: &mut [i64],
     positions: &[u64],
+    made: usize,
     count: usize,
     book: &[i32],
     phases: usize,
@@ -169,12 +173,12 @@ fn window_points(
     up: u32,
 )
     requires { ⌜ (bookNumber (now book) ≡ 0) × (phases ≡ sizesOf (now book) .phases) × (taps ≡ sizesOf (now book) .taps) ⌝ }
-    requires { ⌜ (length (now line) ≡ 209) × (count ≤ 128) × (count - 1 + taps ≤ length (now window)) × (up ≤ 4) × (length (now positions) ≡ 128) ⌝ }
+    requires { ⌜ (length (now line) ≡ 209) × (made ≤ count) × (count ≤ 128) × (count - 1 + taps ≤ length (now window)) × (up ≤ 4) × (length (now positions) ≡ 128) ⌝ }
     requires { ⌜ ((k : ℕ) → k < count → (start ≤ getD (now positions) k 0) × ((getD (now positions) k 0 - start) * 2 ^ up < suc k * 2 ^ 32)) ⌝ }
     requires { ⌜ ((k : ℕ) → k < count - 1 + taps → natAbs (at (now window) k) ≤ 2 ^ 27) ⌝ }
-    ensures { λ _. ⌜ now (line .exit) ≡ overwrite (now (line .entry)) (128 - count) (tabulate count (λ j. windowValue (now (book .entry)) (now (window .entry)) ((getD (now (positions .entry)) (count - suc j) 0 - start) * 2 ^ up))) ⌝ }
+    ensures { λ _. ⌜ ((before : List ℤ) → length before ≡ 209 → now (line .entry) ≡ valuesOver (now (book .entry)) (now (window .entry)) (now (positions .entry)) start up before made → now (line .exit) ≡ valuesOver (now (book .entry)) (now (window .entry)) (now (positions .entry)) start up before count) ⌝ }
 {
-    let mut k = 0;
+    let mut k = made;
     while k < count {
         let x = window_value(book, phases, taps, window, (positions[k] - start) << up);
         line[127 - k] = x;
@@ -182,7 +186,7 @@ fn window_points(
     }
 }
 
-// The values of a level at a run's positions, written to a line of points, newest first.
+// The values of a level at a run's positions, written to a line of points, newest first: four at a time where the book has a table.
 pub fn steady_points(
     line: &mut [i64],
     positions: &[u64],
@@ -192,14 +196,19 @@ pub fn steady_points(
     taps: usize,
     words: &[i32],
     level: u32,
+    table: &[i64],
 )
     requires { ⌜ (bookNumber (now book) ≡ 0) × (phases ≡ sizesOf (now book) .phases) × (taps ≡ sizesOf (now book) .taps) ⌝ }
     requires { ⌜ (level ≤ 4) × (length (now words) ≤ 1048576) × (1 ≤ count) × (count ≤ 128) × (length (now line) ≡ 209) × (length (now positions) ≡ 128) ⌝ }
     requires { ⌜ ((k : ℕ) → k < count → (getD (now positions) 0 0 ≤ getD (now positions) k 0) × (getD (now positions) k 0 ≤ getD (now positions) 0 0 + k * unit level) × (getD (now positions) k 0 ≤ 2 ^ 60)) ⌝ }
+    requires { ⌜ ((length (now table) ≡ 0 → ⊥) → TableOf (now book) (now table)) ⌝ }
     ensures { λ _. ⌜ now (line .exit) ≡ overwrite (now (line .entry)) (128 - count) (tabulate count (λ j. levelValue (now (book .entry)) (now (words .entry)) level (getD (now (positions .entry)) (count - suc j) 0))) ⌝ }
 {
     let shift = 28 + level;
+    let up = 4 - level;
     let base = positions[0] >> shift;
+    let start = base << shift;
+    let reach = count - 1 + taps;
     let mut window = [0i64; 160];
     staged(
         &mut window,
@@ -207,17 +216,48 @@ pub fn steady_points(
         level,
         base as usize + 1,
         taps / 2,
-        count - 1 + taps,
+        reach,
+    );
+    if table.len() == 0 {
+        window_points(
+            line,
+            positions,
+            0,
+            count,
+            book,
+            phases,
+            taps,
+            &window,
+            start,
+            up,
+        );
+        return;
+    }
+    let mut raised = [0i64; 160];
+    let mut totals = [0i64; 160];
+    raise_words(&mut raised, &mut totals, &window, reach);
+    let made = four_points(
+        line,
+        positions,
+        count,
+        table,
+        phases,
+        taps,
+        &raised,
+        &totals,
+        start,
+        up,
     );
     window_points(
         line,
         positions,
+        made,
         count,
         book,
         phases,
         taps,
         &window,
-        base << shift,
-        4 - level,
+        start,
+        up,
     );
 }

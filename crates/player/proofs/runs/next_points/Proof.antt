@@ -55,13 +55,13 @@ returns c =
     let o = c .before .one-output in
     let s = c .before .before .before .before .before .before in
     let e = o .ensures in
-    one-made (line s) (make s) (s .args .fade) (s .args .c) (s .pre .1 .1 .4) (s .pre .1 .1 .3) (e .0) (e .1) (e .2)
+    one-made (line s) (make s) (s .args .fade) (s .args .c) (s .pre .1 .1 .0 .4) (s .pre .1 .1 .0 .3) (e .0) (e .1) (e .2)
 
 steady-run-requires : tie.Need-steady-run-requires
 steady-run-requires c κs =
     let s = c .before .before .before .before .before in
-    let p = s .pre .1 .1 in
-    (s .pre .0, (s .pre .1 .0, (p .0, p .1, p .2, p .3, p .5, c .before .before .if1 .left)))
+    let p = s .pre .1 .1 .0 in
+    (s .pre .0, (s .pre .1 .0, ((p .0, p .1, p .2, p .3, p .5, c .before .before .if1 .left), s .pre .1 .1 .1)))
 
 same-length-2 : tie.Need-same-length-2
 same-length-2 c = search needs
@@ -78,7 +78,7 @@ one-output-requires-2 : tie.Need-one-output-requires-2
 one-output-requires-2 c κs =
     let e = c .before in
     let s = start e in
-    let p = s .pre .1 .1 in
+    let p = s .pre .1 .1 .0 in
     (s .pre .0, (s .pre .1 .0, (p .0, p .1, ap length (line-same e) ∙ p .2)))
 
 same-length-4 : tie.Need-same-length-4
@@ -93,7 +93,7 @@ returns-3 c =
     let n = c .before .before .before in
     let s = start n in
     let e = o .ensures in
-    one-made (line s) (make s) (s .args .fade) (s .args .c) (s .pre .1 .1 .4) (run n .steady-run .ensures .0 .2) (e .0) (e .1)
+    one-made (line s) (make s) (s .args .fade) (s .args .c) (s .pre .1 .1 .0 .4) (run n .steady-run .ensures .0 .2) (e .0) (e .1)
     (e .2 ∙ ap (λ l. overwrite l 126 (runPoints (make s) (s .args .fade) (s .args .c) 1)) (line-same n))
 
 pub next-points-spec : {M : Type 1} → statement M

@@ -50,7 +50,7 @@ module _ (s : tie.Start) where
   end = getD (s .args .starts .now) (level + 1) 0
 
   level-high : level ≤ 4
-  level-high = omega (arith, s .pre .1 .1 .0 .from-high, s .pre .1 .1 .0 .top-high)
+  level-high = omega (arith, s .pre .1 .1 .0 .0 .from-high, s .pre .1 .1 .0 .0 .top-high)
 
   start-is : start ≡ levelStart samples level
   start-is = s .pre .1 .0 .1 level (omega (arith, level-high))
@@ -59,7 +59,7 @@ module _ (s : tie.Start) where
   end-is = omega (arith, s .pre .1 .0 .1 (level + 1) (omega (arith, level-high)), levelStart-more samples level, start-is)
 
   room : end ≤ length store
-  room = omega (arith, s .pre .1 .0 .1 (level + 1) (omega (arith, level-high)), start-mono samples (s .pre .1 .1 .0 .from-high), s .pre .1 .1 .1)
+  room = omega (arith, s .pre .1 .0 .1 (level + 1) (omega (arith, level-high)), start-mono samples (s .pre .1 .1 .0 .0 .from-high), s .pre .1 .1 .0 .1)
 
   words-are : take (end - start) (drop start store) ≡ storeLevel store samples level
   unfolding storeLevel
@@ -74,7 +74,7 @@ steady-positions-requires : tie.Need-steady-positions-requires
 steady-positions-requires c κs =
     let s = c .before .before in
     let f = sizes-bounded (s .args .book .now) (accepted _ (s .pre .0 .0)) in
-    (s .pre .1 .1 .0, s .pre .1 .1 .5, s .pre .1 .1 .4, omega (arith, s .pre .0 .3, f .fade-low), omega (arith, s .pre .0 .3, f .fade-high), s .pre .1 .1 .3)
+    (s .pre .1 .1 .0 .0, s .pre .1 .1 .0 .5, s .pre .1 .1 .0 .4, omega (arith, s .pre .0 .3, f .fade-low), omega (arith, s .pre .0 .3, f .fade-high), s .pre .1 .1 .0 .3)
 
 -- the positions
 module _ (p : tie.After-steady-positions) where
@@ -147,8 +147,8 @@ steady-points-requires c κs =
     let start = first-is p some in (
       (s .pre .0 .0, s .pre .0 .1, s .pre .0 .2),
       (
-        (level-high s, words-count s, omega (arith, some), omega (arith, e .0 .0, s .pre .1 .1 .4), s .pre .1 .1 .2, e .0 .2),
-        λ k h. let b = e .1 .1 k h in (omega (arith, start, b .0), omega (arith, start, b .1), b .2),
+        (level-high s, words-count s, omega (arith, some), omega (arith, e .0 .0, s .pre .1 .1 .0 .4), s .pre .1 .1 .0 .2, e .0 .2),
+        (λ k h. let b = e .1 .1 k h in (omega (arith, start, b .0), omega (arith, start, b .1), b .2), s .pre .1 .1 .1),
       ),
     )
 

@@ -1,27 +1,27 @@
 -- `player::window::tap_value` meets its contract: the place is taken apart into word, phase and offset, and the two sums make the window's
 -- value. Assumes nothing.
-use mathlib.Core.Path.{_≡_, refl, sym, ap, ap₂, _∙_}
+use mathlib.Core.Path.{_≡_, refl, ap, ap₂, _∙_}
 use mathlib.Core.List.{List}
 use Prim.Native.Nat.{ℕ, suc, _+_, _*_, _-_, _/_, _%_, _^_, _≤_, _<_}
 use native.Mathlib.Nat.{mul-le-mul, mul-le-mul-right}
 use native.Mathlib.Omega.{arith}
 use borrow.Author.Needs.{needs}
-use lib.IntN.{ℤ, natAbs}
+use lib.IntN.{ℤ, pos, natAbs, _+ℤ_, _*ℤ_}
 use lib.ListN.{length, take, drop, length-drop}
 use lib.Seq.{take-all}
 use mir.Syntax.{w64}
 use mir.Val.{SFits}
+use Rattle.arith.specs.Floor.{near}
 use Rattle.arith.specs.Lists.{at}
 use Rattle.arith.proofs.Bits.{reads}
 use Rattle.arith.proofs.Integers.{abs-fits}
 use Rattle.arith.proofs.Lists.{part-length, at-part}
 use Rattle.book.specs.Book.{sizesOf}
 use Rattle.book.proofs.Accepted.{Accepted, accepted, sizes-bounded, sizes-room}
-use Rattle.player.specs.Points.{unit, phaseAt, offsetAt}
-use Rattle.player.specs.Inner.{windowSum, rowSum, windowValue}
-use Rattle.player.proofs.Values.{phase-below}
-use Rattle.player.proofs.Split.{rowsFrom, row-small, impulseSum, differenceSum, impulseSum-bound, differenceSum-bound, levelValue-split}
-use Rattle.player.proofs.Staged.{positionOf, position-rest, position-word, rowSum-window}
+use Rattle.player.specs.Inner.{rowSum}
+use Rattle.player.proofs.Split.{rowsFrom, row-small}
+use Rattle.player.proofs.Staged.{phaseOf, phase-low, windowImpulses, windowDifferences, windowValue-split}
+use Rattle.player.proofs.Staged as staged
 use Rattle.player.proofs.window.tap_value.Statement.{statement}
 use Rattle.player.proofs.window.tap_value.Tie as tie
 
@@ -57,9 +57,6 @@ module _ (s : tie.Start) where
   abbrev words : List ℤ
   words = take (length window - first) (drop first window)
 
-  abbrev position : ℕ
-  position = positionOf book place
-
   sound : Accepted book
   sound = accepted book (s .pre .0 .0)
 
@@ -69,9 +66,6 @@ module _ (s : tie.Start) where
   phases-are : phases ≡ sizesOf book .phases
   phases-are = s .pre .0 .1
 
-  scaled-is : scaled ≡ position % unit 4 * sizesOf book .phases
-  scaled-is = ap₂ (λ x y. x * y) (sym (position-rest book place)) phases-are
-
   scaled-low : scaled < 2 ^ 64
   scaled-low =
       let few : phases ≤ 128 = omega (arith, phases-are, sizes-bounded book sound .phases-high) in
@@ -79,24 +73,19 @@ module _ (s : tie.Start) where
       let h : scaled ≤ 2 ^ 32 * 128 = mul-le-mul below few in
       omega arith
 
-  phase-is : phase ≡ phaseAt book 4 position
-  unfolding phaseAt unit
-  phase-is = ap (λ x. x / 2 ^ 32) scaled-is
-
-  offset-is : scaled % 2 ^ 32 ≡ offsetAt book 4 position
-  unfolding offsetAt unit
-  offset-is = ap (λ x. x % 2 ^ 32) scaled-is
+  phase-is : phase ≡ phaseOf book sound place
+  phase-is = ap (λ m. place % 2 ^ 32 * m / 2 ^ 32) phases-are
 
   -- the phase's words lie in the book, and so do its differences
   room : (phase * taps + taps ≤ phases * taps) × (5 + phases * taps + phases * taps ≤ length book) × (phases * taps ≤ 3072)
   room =
       let r = sizes-room book sound (sizesOf book) refl in
       let e : phases * taps ≡ sizesOf book .phases * sizesOf book .taps = ap₂ (λ m n. m * n) phases-are taps-are in
-      let low : phase < phases = omega (arith, phase-is, phase-below book sound 4 position, phases-are) in
+      let low : phase < phases = omega (arith, phase-is, phase-low book sound place, phases-are) in
       let h : suc phase * taps ≤ phases * taps = mul-le-mul-right taps low in
       (omega arith, omega (arith, r .0), omega (arith, r .1))
 
-  rows-are : rows ≡ rowsFrom book (phaseAt book 4 position)
+  rows-are : rows ≡ rowsFrom book (phaseOf book sound place)
   rows-are =
       take-all (length book - (5 + phase * taps)) (drop (5 + phase * taps) book) (simp length-drop (omega arith))
       ∙ ap₂ (λ q n. drop (5 + q * n) book) phase-is taps-are
@@ -105,7 +94,7 @@ module _ (s : tie.Start) where
   rows-length = part-length book (5 + phase * taps) (length book - (5 + phase * taps)) (omega (arith, room))
 
   rows-small : (k : ℕ) → natAbs (at rows k) ≤ 65536
-  rows-small k = rw rows-are (row-small book sound (5 + phaseAt book 4 position * sizesOf book .taps) k (omega arith))
+  rows-small k = rw rows-are (row-small book sound (5 + phaseOf book sound place * sizesOf book .taps) k (omega arith))
 
   words-are : words ≡ drop first window
   words-are = take-all (length window - first) (drop first window) (simp length-drop (omega arith))
@@ -113,33 +102,29 @@ module _ (s : tie.Start) where
   words-small : (k : ℕ) → k < taps → natAbs (at words k) ≤ 2 ^ 27
   words-small k h = rw (at-part window first (length window - first) k (omega arith)) (s .pre .1 .1 (first + k) (omega arith))
 
-  -- the first word that is read, as a value's sum has it
-  first-is : position / unit 4 + 1 ≡ first + sizesOf book .taps / 2
-  first-is = omega (arith, position-word book place, sizes-bounded book sound .taps-low)
+  window-small : (k : ℕ) → k < first + sizesOf book .taps → natAbs (at window k) ≤ 2 ^ 27
+  window-small k h = s .pre .1 .1 k (omega (arith, taps-are))
 
 -- the sums
 module _ (c : tie.After-row-sums) where
   abbrev s : tie.Start
   s = c .before .before .before
 
-  -- over the window's words, those of a value's sum
-  row-is : (row : List ℤ) → rowSum (words s) row (taps s) ≡ windowSum (window s) 4 (position s / unit 4 + 1) (sizesOf (book s) .taps / 2) row (sizesOf (book s) .taps)
-  row-is row =
-      ap (λ ws. rowSum ws row (taps s)) (words-are s)
-      ∙ rowSum-window (window s) row (first s) (sizesOf (book s) .taps / 2) (taps s) (s .pre .1 .1)
-      ∙ ap₂ (λ n m. windowSum (window s) 4 n (sizesOf (book s) .taps / 2) row m) (sym (first-is s)) (taps-are s)
+  -- as the code adds it up
+  row-is : (row : List ℤ) → rowSum (words s) row (taps s) ≡ rowSum (drop (first s) (window s)) row (sizesOf (book s) .taps)
+  row-is row = ap₂ (λ ws n. rowSum ws row n) (words-are s) (taps-are s)
 
-  impulses-are : c .row-sums .result .impulses ≡ impulseSum (book s) (window s) 4 (position s)
+  impulses-are : c .row-sums .result .impulses ≡ windowImpulses (book s) (sound s) (place s) (window s) (window-small s)
   impulses-are = cc (c .row-sums .ensures .0, row-is (rows s), rows-are s)
 
-  differences-are : c .row-sums .result .differences ≡ differenceSum (book s) (window s) 4 (position s)
+  differences-are : c .row-sums .result .differences ≡ windowDifferences (book s) (sound s) (place s) (window s) (window-small s)
   differences-are = cc (c .row-sums .ensures .1, row-is (drop (phases s * taps s) (rows s)), rows-are s, phases-are s, taps-are s)
 
   impulses-small : natAbs (c .row-sums .result .impulses) ≤ 2 ^ 44
-  impulses-small = rw impulses-are (omega (arith, impulseSum-bound (book s) (sound s) (window s) 4 (position s)))
+  impulses-small = rw impulses-are (staged.impulses-small (book s) (sound s) (place s) (window s) (window-small s))
 
   differences-small : natAbs (c .row-sums .result .differences) ≤ 2 ^ 45
-  differences-small = rw differences-are (omega (arith, differenceSum-bound (book s) (sound s) (window s) 4 (position s)))
+  differences-small = rw differences-are (staged.differences-small (book s) (sound s) (place s) (window s) (window-small s))
 
   impulses-fit : SFits w64 (c .row-sums .result .impulses)
   impulses-fit = abs-fits w64 (c .row-sums .result .impulses) (omega (arith, impulses-small))
@@ -203,14 +188,15 @@ mixed-requires c κs =
     simp (reads, impulses-fit r, differences-fit r) (impulses-small r, differences-small r, omega arith, omega arith, omega arith)
 
 returns : tie.Need-returns
-unfolding windowValue unit
 returns c =
     let r = c .before .before .before in
     let a = s r in
     let fits : SFits w64 (c .mixed .result) = record { sfits = c .mixed .ok } in
+    let offset-is : scaled a % 2 ^ 32 ≡ place a % 2 ^ 32 * sizesOf (book a) .phases % 2 ^ 32 = ap (λ m. place a % 2 ^ 32 * m % 2 ^ 32) (phases-are a) in
     simp (reads, fits)
     ((simp (reads, impulses-fit r, differences-fit r) at (c .mixed .ensures))
-    ∙ levelValue-split (book a) (sound a) (window a) 4 (position a) (impulses-are r) (differences-are r) (offset-is a))
+    ∙ ap (λ e. near (pos (2 ^ 32) *ℤ c .before .before .before .row-sums .result .impulses +ℤ pos e *ℤ c .before .before .before .row-sums .result .differences) (16384 * 2 ^ 32)) offset-is
+    ∙ windowValue-split (book a) (sound a) (place a) (window a) (window-small a) (impulses-are r) (differences-are r))
 
 pub tap-value-spec : {M : Type 1} → statement M
 tap-value-spec =

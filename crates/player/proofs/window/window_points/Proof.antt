@@ -1,7 +1,7 @@
--- `player::window::window_points` meets its contract. The loop's invariant: the values of the positions passed are written, the newest in front.
--- Assumes nothing.
-use mathlib.Core.Path.{_≡_, refl, sym, ap, ap₂, _∙_}
-use mathlib.Core.List.{List, _∷_}
+-- `player::window::window_points` meets its contract. The loop's invariant: whatever line had the values of the first `made` positions now has those
+-- of the positions passed, the newest in front. Assumes nothing.
+use mathlib.Core.Path.{_≡_, refl, ap, _∙_}
+use mathlib.Core.List.{List}
 use Prim.Native.Nat.{ℕ, suc, _+_, _*_, _-_, _%_, _^_, _≤_, _<_}
 use native.Mathlib.Nat.{mod-eq-of-lt}
 use native.Mathlib.Omega.{arith}
@@ -9,23 +9,19 @@ use lib.IntN.{ℤ}
 use lib.ListN.{length, getD, set, length-set}
 use mir.Syntax.{w64}
 use mir.Val.{SFits}
-use Rattle.arith.specs.Lists.{at, tabulate, overwrite}
 use Rattle.arith.proofs.Bits.{reads}
-use Rattle.arith.proofs.Lists.{overwrite-none, overwrite-front, tabulate-back}
-use Rattle.player.specs.Inner.{windowValue}
+use Rattle.player.specs.Inner.{windowValue, valuesOver}
+use Rattle.player.proofs.Newest.{newest-next}
 use Rattle.player.proofs.window.window_points.Statement.{statement}
 use Rattle.player.proofs.window.window_points.Tie as tie
 
--- the value at position i
-abbrev valueAt : List ℤ → List ℤ → List ℕ → ℕ → ℕ → ℕ → ℤ
-valueAt book window positions start up i = windowValue book window ((getD positions i 0 - start) * 2 ^ up)
-
 abbrev Inv-loop : tie.InvT-loop
-Inv-loop line₀ positions count book phases taps window start up k₀ line k =
-    (k ≤ count) × (length line ≡ length line₀) × (line ≡ overwrite line₀ (128 - k) (tabulate k (λ j. valueAt book window positions start up (k - suc j))))
+Inv-loop line₀ positions made count book phases taps window start up k₀ line k =
+    (k ≤ count) × (length line ≡ length line₀)
+    × ((before : List ℤ) → length before ≡ 209 → line₀ ≡ valuesOver book window positions start up before made → line ≡ valuesOver book window positions start up before k)
 
 abbrev μ-loop : tie.MeasureT-loop
-μ-loop line₀ positions count book phases taps window start up k₀ line k = count - k
+μ-loop line₀ positions made count book phases taps window start up k₀ line k = count - k
 
 -- ---- in a turn
 
@@ -46,25 +42,18 @@ module _ (c : tie.In-loop Inv-loop μ-loop) where
   shifted = mod-eq-of-lt (omega (arith, ahead))
 
   abbrev values : ℕ → ℤ
-  values = valueAt (s .args .book .now) (s .args .window .now) (s .args .positions .now) (s .args .start) (s .args .up)
+  values i = windowValue (s .args .book .now) (s .args .window .now) ((getD (s .args .positions .now) i 0 - s .args .start) * 2 ^ s .args .up)
 
-  abbrev line : List ℤ
-  line = s .args .line .now
+  abbrev over : List ℤ → ℕ → List ℤ
+  over = valuesOver (s .args .book .now) (s .args .window .now) (s .args .positions .now) (s .args .start) (s .args .up)
 
   -- one value more in front
-  written : {x : ℤ} → x ≡ values k → set (c .before .loop .line) (127 - k) x ≡ overwrite line (128 - (k + 1)) (tabulate (k + 1) (λ j. values (k + 1 - suc j)))
-  written {x} e =
-      let before : 128 - k ≡ suc (127 - k) = omega arith in
-      let after : 127 - k ≡ 128 - (k + 1) = omega arith in
-      let so-far : List ℤ = tabulate k (λ j. values (k - suc j)) in
-      ap (λ l. set l (127 - k) x) (c .before .loop .inv .2 ∙ ap (λ a. overwrite line a so-far) before)
-      ∙ overwrite-front line (127 - k) so-far x (omega arith)
-      ∙ ap₂ (λ v a. overwrite line a (v ∷ so-far)) e after
-      ∙ ap (overwrite line (128 - (k + 1))) (sym (tabulate-back k values))
+  written : {x : ℤ} → x ≡ values k → (before : List ℤ) → length before ≡ 209 → s .args .line .now ≡ over before (s .args .made) → set (c .before .loop .line) (127 - k) x ≡ over before (k + 1)
+  unfolding valuesOver
+  written {x} e before l h = newest-next before 128 values k x (omega arith) (omega arith) e refl (omega arith) (c .before .loop .inv .2 before l h)
 
 loop-holds : tie.Need-loop-holds Inv-loop μ-loop
-unfolding tabulate
-loop-holds c = (omega arith, refl, overwrite-none (c .before .args .line .now) 128)
+loop-holds c = (c .before .pre .1 .0 .1, refl, λ before l h. h)
 
 mul-window-value : tie.Need-mul-window-value Inv-loop μ-loop
 mul-window-value c = omega arith
@@ -115,8 +104,7 @@ returns : tie.Need-returns Inv-loop μ-loop
 returns c =
     let a = c .before .before .before .args in
     let e : c .before .loop .k ≡ a .count = omega arith in
-    let values = valueAt (a .book .now) (a .window .now) (a .positions .now) (a .start) (a .up) in
-    c .before .loop .inv .2 ∙ ap (λ n. overwrite (a .line .now) (128 - n) (tabulate n (λ j. values (n - suc j)))) e
+    λ before l h. c .before .loop .inv .2 before l h ∙ ap (valuesOver (a .book .now) (a .window .now) (a .positions .now) (a .start) (a .up) before) e
 
 pub window-points-spec : {M : Type 1} → statement M
 window-points-spec =

@@ -1,0 +1,296 @@
+-- `player::outputs::fill_by` meets its contract. The loop's invariant: `Filled`, of the outputs so far. Assumes nothing.
+use borrow.Author.Needs.{needs}
+use mathlib.Core.Path.{_≡_, refl, sym, ap, ap₂, _∙_}
+use mathlib.Core.List.{List}
+use Prim.Native.Nat.{ℕ, suc, _+_, _-_, _*_, _^_, _≤_, _<_, min}
+use native.Mathlib.Nat.{le-trans, le-of-eq, le-min, min-le-left, min-le-right}
+use native.Mathlib.Omega.{arith}
+use lib.IntN.{ℤ, pos, natAbs}
+use lib.ListN.{length, drop}
+use lib.Seq.{paste}
+use Rattle.arith.specs.Lists.{at, part, overwrite}
+use Rattle.arith.proofs.Lists.{paste-none, paste-whole}
+use Rattle.book.specs.Book.{sizesOf}
+use Rattle.book.proofs.Bounds.{length-is}
+use Rattle.book.proofs.Accepted.{Accepted, accepted, sizes-bounded}
+use Rattle.player.specs.declared.Control.{Control}
+use Rattle.player.specs.declared.Voice.{Voice}
+use Rattle.player.specs.Outputs.{voiceAfter, outputs}
+use Rattle.player.specs.Points.{point}
+use Rattle.player.specs.Inner.{controlAfter, runPoints, lineOf}
+use Rattle.player.proofs.Blocks.{after-ready, length-outputs}
+use Rattle.player.proofs.Filled.{Filled, length-line, line-history, filled-more, filled-length, filled-ready, filled-small, run-small, end-history}
+use Rattle.player.proofs.outputs.fill_by.Statement.{statement}
+use Rattle.player.proofs.outputs.fill_by.Tie as tie
+
+-- the voice that a control and a line stand for
+abbrev voiceWith : Control → List ℤ → Voice
+voiceWith control line = record { control = control; history = drop 128 line }
+
+abbrev Inv-loop : tie.InvT-loop
+Inv-loop table book store samples out₀ phases taps fade starts decimation control₀ line₀ positions₀ i₀ out control line positions i =
+    (length line ≡ 209) × (length positions ≡ 128) × Filled book store samples (voiceWith control₀ line₀) out₀ control line out i
+
+abbrev μ-loop : tie.MeasureT-loop
+μ-loop table book store samples out₀ phases taps fade starts decimation control₀ line₀ positions₀ i₀ out control line positions i = length out₀ - i
+
+-- ---- before the loop
+
+module _ (s : tie.Start Inv-loop μ-loop) where
+  abbrev b : List ℤ
+  b = s .args .book .now
+
+  abbrev store : List ℤ
+  store = s .args .store .now
+
+  abbrev S : ℕ
+  S = s .args .samples
+
+  abbrev v : Voice
+  v = s .args .v
+
+  abbrev out₀ : List ℤ
+  out₀ = s .args .out .now
+
+  out-fits : length out₀ * 2 < 2 ^ 64
+  out-fits = omega arith
+
+  book : Accepted b
+  book = accepted b (s .pre .1 .0 .0)
+
+read-sizes-requires : tie.Need-read-sizes-requires Inv-loop μ-loop
+read-sizes-requires c κs = omega (arith, book c .lengthy, length-is (sizesOf (b c)))
+
+cast-fade : tie.Need-cast-fade Inv-loop μ-loop
+cast-fade c = let s = c .before .before in omega (arith, ap (λ z. z .fade) (c .before .read-sizes .ensures), sizes-bounded (b s) (book s) .fade-high)
+
+level-starts-requires : tie.Need-level-starts-requires Inv-loop μ-loop
+level-starts-requires c κs = omega arith
+
+decimation-taps-requires : tie.Need-decimation-taps-requires Inv-loop μ-loop
+decimation-taps-requires c κs = c .before .before .before .pre .1 .0 .0
+
+widened-requires : tie.Need-widened-requires Inv-loop μ-loop
+widened-requires c κs = search needs
+
+line-of-requires : tie.Need-line-of-requires Inv-loop μ-loop
+line-of-requires c κs = search needs
+
+-- the line that the loop begins with
+module _ (c : tie.After-line-of Inv-loop μ-loop) where
+  abbrev start : tie.Start Inv-loop μ-loop
+  start = c .before .before .before .before .before .before .before .before
+
+  abbrev line₀ : List ℤ
+  line₀ = c .line-of .result
+
+  abbrev voice₀ : Voice
+  voice₀ = voiceWith (v start .control) line₀
+
+  length-widened : length (c .before .widened .result) ≡ 81
+  length-widened = omega (arith, c .before .widened .ok)
+
+  line-is : line₀ ≡ lineOf (c .before .widened .result)
+  line-is = c .line-of .ensures
+
+  history-is : drop 128 line₀ ≡ c .before .widened .result
+  history-is = ap (drop 128) line-is ∙ line-history (c .before .widened .result) length-widened
+
+  length-history : length (drop 128 line₀) ≡ 81
+  length-history = ap length history-is ∙ length-widened
+
+  voice-is : voice₀ ≡ v start
+  voice-is = ap (λ h. record { control = v start .control; history = h }) (history-is ∙ c .before .widened .ensures)
+
+  small₀ : (k : ℕ) → k < 81 → natAbs (at (voice₀ .history) k) ≤ 2 ^ 29
+  small₀ k h = rw (history-is ∙ c .before .widened .ensures) (start .pre .1 .1 .1 k h)
+
+loop-holds : tie.Need-loop-holds Inv-loop μ-loop
+unfolding voiceAfter
+loop-holds c =
+    let s = start c in (
+      ap length (line-is c) ∙ length-line (c .before .widened .result) (length-widened c),
+      refl,
+      record {
+        count = omega arith;
+        control = refl;
+        points = line-is c ∙ ap lineOf (sym (history-is c));
+        words = paste-none (out₀ s) 0 (outputs (b s) (store s) (S s) (voice₀ c) (length (out₀ s)));
+      },
+    )
+
+-- ---- a turn
+
+module _ (a : tie.At-loop Inv-loop μ-loop) where
+  abbrev s : tie.Start Inv-loop μ-loop
+  s = start (a .before)
+
+  abbrev i : ℕ
+  i = a .loop .i
+
+  filled : Filled (b s) (store s) (S s) (voice₀ (a .before)) (out₀ s) (a .loop .control) (a .loop .line) (a .loop .out) i
+  filled = a .loop .inv .2
+
+  out-length : length (a .loop .out) ≡ length (out₀ s)
+  out-length = filled-length filled
+
+  sizes-are : a .before .before .before .before .before .before .before .before .read-sizes .result ≡ sizesOf (b s)
+  sizes-are = a .before .before .before .before .before .before .before .before .read-sizes .ensures
+
+  fade-is : a .before .before .before .before .before .before .before .before .read-sizes .result .fade ≡ sizesOf (b s) .fade
+  fade-is = ap (λ z. z .fade) sizes-are
+
+sub-run-length : tie.Need-sub-run-length Inv-loop μ-loop
+sub-run-length c = omega (arith, filled (c .before) .count, out-length (c .before))
+
+run-length-requires : tie.Need-run-length-requires Inv-loop μ-loop
+run-length-requires c κs = search needs
+
+slice-aggregate-next-points : tie.Need-slice-aggregate-next-points Inv-loop μ-loop
+slice-aggregate-next-points c = sym (c .before .before .before .loop .inv .0)
+
+slice-aggregate-next-points-2 : tie.Need-slice-aggregate-next-points-2 Inv-loop μ-loop
+slice-aggregate-next-points-2 c = sym (c .before .before .before .before .loop .inv .1)
+
+next-points-requires : tie.Need-next-points-requires Inv-loop μ-loop
+next-points-requires c κs =
+    let a = c .before .before .before .before .before in
+    let u = s a in
+    let e = sizes-are a in
+    let r = c .before .before .before .run-length .ensures in
+    let ready = filled-ready (filled a) (fade-is a) (u .pre .1 .0 .2) (u .pre .1 .1 .0) in (
+      (u .pre .1 .0 .0, ap (λ z. z .phases) e, ap (λ z. z .taps) e, fade-is a),
+      (
+        (u .pre .1 .0 .1, a .before .before .before .before .before .before .level-starts .ensures),
+        ((ready .0, ready .1, a .loop .inv .0, a .loop .inv .1, rw r (le-min (omega arith) (omega arith)), rw r (min-le-left 64 _)), u .pre .0),
+      ),
+    )
+
+-- the points of the next outputs are on the line
+module _ (n : tie.After-next-points Inv-loop μ-loop) where
+  abbrev turn : tie.At-loop Inv-loop μ-loop
+  turn = n .before .before .before .before .before .before
+
+  abbrev first : tie.Start Inv-loop μ-loop
+  first = s turn
+
+  abbrev made : ℕ
+  made = n .next-points .result .made
+
+  abbrev line₁ : List ℤ
+  line₁ = n .next-points .last .0
+
+  count-is : n .before .before .before .before .run-length .result ≡ min 64 (length (turn .loop .out) - i turn)
+  count-is = n .before .before .before .before .run-length .ensures
+
+  few : made ≤ 64
+  few = le-trans (n .next-points .ensures .0 .1) (le-trans (le-of-eq count-is) (min-le-left 64 _))
+
+  room : i turn + made ≤ length (out₀ first)
+  room =
+      let l : made ≤ length (turn .loop .out) - i turn = le-trans (n .next-points .ensures .0 .1) (le-trans (le-of-eq count-is) (min-le-right 64 _)) in
+      omega (arith, l, out-length turn, filled turn .count)
+
+  line-e : line₁ ≡ overwrite (turn .loop .line) (128 - 2 * made) (runPoints (point (b first) (store first) (S first)) (sizesOf (b first) .fade) (turn .loop .control) made)
+  line-e = n .next-points .ensures .1 ∙ ap (λ F. overwrite (turn .loop .line) (128 - 2 * made) (runPoints (point (b first) (store first) (S first)) F (turn .loop .control) made)) (fade-is turn)
+
+write-outputs-requires : tie.Need-write-outputs-requires Inv-loop μ-loop
+write-outputs-requires c κs =
+    let n = c .before .before .before .before in
+    let a = turn n in
+    let u = s a in (
+      (u .pre .1 .0 .0, c .before .before .before .before .before .before .before .before .before .before .before .before .before .before .before .decimation-taps .ensures, few n, omega (arith, room n, out-length a)),
+      run-small (filled a) (length-history (a .before)) (book u) (u .pre .1 .0 .2) (small₀ (a .before)) (made n) (line-e n),
+    )
+
+mul-newest : tie.Need-mul-newest Inv-loop μ-loop
+mul-newest c = omega (arith, few (c .before .before .before .before .before .before))
+
+sub-newest : tie.Need-sub-newest Inv-loop μ-loop
+sub-newest c = omega (arith, few (c .before .before .before .before .before .before))
+
+newest-requires : tie.Need-newest-requires Inv-loop μ-loop
+newest-requires c κs = omega arith
+
+line-of-requires-2 : tie.Need-line-of-requires-2 Inv-loop μ-loop
+line-of-requires-2 c κs = search needs
+
+add-i : tie.Need-add-i Inv-loop μ-loop
+add-i c = let n = c .before .before .before .before .before .before .before .before .before in omega (arith, room n, out-fits (first n))
+
+loop-less : tie.Need-loop-less Inv-loop μ-loop
+loop-less c = let n = c .before .before .before .before .before .before .before .before .before in omega (arith, room n, n .next-points .ensures .0 .0)
+
+loop-again : tie.Need-loop-again Inv-loop μ-loop
+loop-again c =
+    let n = c .before .before .before .before .before .before .before .before .before in
+    let a = turn n in
+    let w = c .before .before .before .before in
+    let newest = c .before .before .newest in
+    let line : c .before .line-of2 .result ≡ lineOf (part (line₁ n) (128 - 2 * made n) 81) = c .before .line-of2 .ensures ∙ ap lineOf (newest .ensures) in
+    let control : n .next-points .result .control ≡ controlAfter (sizesOf (b (first n)) .fade) (a .loop .control) (made n) = n .next-points .ensures .0 .2 ∙ ap (λ F. controlAfter F (a .loop .control) (made n)) (fade-is a) in (
+      omega (arith, c .before .line-of2 .ok),
+      n .next-points .ensures .0 .3,
+      filled-more (filled a) (length-history (a .before)) (made n) (few n) (room n) (line-e n) control (w .write-outputs .ensures) line,
+    )
+
+newest-requires-2 : tie.Need-newest-requires-2 Inv-loop μ-loop
+newest-requires-2 c κs = search needs
+
+narrowed-requires : tie.Need-narrowed-requires Inv-loop μ-loop
+narrowed-requires c κs =
+    let a = c .before .before in
+    let u = s a in
+    let e : c .newest2 .result ≡ voiceAfter (b u) (store u) (S u) (voice₀ (a .before)) (i a) .history = c .newest2 .ensures ∙ end-history (filled a) (length-history (a .before)) in
+    λ k. le-trans (le-of-eq (ap (λ h. natAbs (at h k)) e)) (filled-small (filled a) (length-history (a .before)) (book u) (u .pre .1 .0 .2) (small₀ (a .before)) k)
+
+same-length : tie.Need-same-length Inv-loop μ-loop
+same-length c = out-length (c .before .before .before)
+
+returns : tie.Need-returns Inv-loop μ-loop
+returns c =
+    let a = c .before .before .before in
+    let u = s a in
+    let l = a .before in
+    let n = length (out₀ u) in
+    let e : i a ≡ n = omega (arith, out-length a, filled a .count) in
+    let history : c .narrowed .result ≡ voiceAfter (b u) (store u) (S u) (voice₀ l) (i a) .history = c .narrowed .ensures ∙ c .before .newest2 .ensures ∙ end-history (filled a) (length-history l) in
+    let w : List ℤ = outputs (b u) (store u) (S u) (voice₀ l) n in
+    let all : length w ≡ n = length-outputs (b u) (store u) (S u) (voice₀ l) n in (
+      ap₂ {C = Voice} (λ d h. record { control = d; history = h }) (filled a .control) history
+          ∙ ap₂ (voiceAfter (b u) (store u) (S u)) (voice-is l) e,
+      filled a .words
+          ∙ paste-whole (out₀ u) w (i a) (e ∙ sym all) all
+          ∙ ap (λ x. outputs (b u) (store u) (S u) x n) (voice-is l),
+    )
+
+pub fill-by-spec : {M : Type 1} → statement M
+fill-by-spec =
+    tie.close
+    (tie.spec
+    Inv-loop
+    μ-loop
+    read-sizes-requires
+    cast-fade
+    level-starts-requires
+    decimation-taps-requires
+    widened-requires
+    line-of-requires
+    loop-holds
+    sub-run-length
+    run-length-requires
+    slice-aggregate-next-points
+    slice-aggregate-next-points-2
+    next-points-requires
+    write-outputs-requires
+    mul-newest
+    sub-newest
+    newest-requires
+    line-of-requires-2
+    add-i
+    loop-less
+    loop-again
+    newest-requires-2
+    narrowed-requires
+    same-length
+    returns)
