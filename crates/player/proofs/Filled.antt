@@ -9,7 +9,7 @@ use lib.IntN.{ℤ, pos, natAbs}
 use lib.ListN.{length, take, drop, replicate, length-take, length-drop, length-replicate}
 use lib.Seq.{paste, length-paste, take-all, drop-at, drop-drop, drop-length, getD-take, getD-drop, length-take-le}
 use Rattle.arith.specs.Lists.{at, part, tabulate, overwrite}
-use Rattle.arith.proofs.Lists.{at-outside, paste-all}
+use Rattle.arith.proofs.Lists.{part-length, at-outside, paste-all}
 use Rattle.arith.proofs.Parts.{paste-part}
 use Rattle.book.specs.Book.{sizesOf}
 use Rattle.book.proofs.Accepted.{Accepted}
@@ -81,7 +81,7 @@ module _ (h : List ℤ) (l : length h ≡ 81) where
 
 -- ---- a run along a line
 
-module _ (b store : List ℤ) (S : ℕ) (w : Voice) (l : length (w .history) ≡ 81) where
+module _ (b store : List ℤ) (S : ℕ) (w : Voice) (l : length (w .history) ≡ 81) (line : List ℤ) (long : length line ≡ 209) (kept : drop 128 line ≡ w .history) where
   abbrev F : ℕ
   F = sizesOf b .fade
 
@@ -90,7 +90,7 @@ module _ (b store : List ℤ) (S : ℕ) (w : Voice) (l : length (w .history) ≡
 
   -- the line with the points of n outputs
   abbrev written : ℕ → List ℤ
-  written n = overwrite (lineOf (w .history)) (128 - 2 * n) (run n)
+  written n = overwrite line (128 - 2 * n) (run n)
 
   -- the points of m of them, and the history behind
   behind : (m d : ℕ) → d + m ≤ 64 → drop (128 - 2 * m) (written (d + m)) ≡ run m ++ w .history
@@ -100,8 +100,8 @@ module _ (b store : List ℤ) (S : ℕ) (w : Voice) (l : length (w .history) ≡
       let e : 128 - 2 * n + 2 * d ≡ 128 - 2 * m = omega arith in
       sym (ap (λ k. drop k (written n)) e)
       ∙ sym (drop-drop (2 * d) (128 - 2 * n) (written n))
-      ∙ ap (drop (2 * d)) (line-written (lineOf (w .history)) (run n) (128 - 2 * n) (omega (arith, r)) (omega (arith, length-line (w .history) l)))
-      ∙ ap (λ t. drop (2 * d) (run n ++ t)) (line-history (w .history) l)
+      ∙ ap (drop (2 * d)) (line-written line (run n) (128 - 2 * n) (omega (arith, r)) (omega (arith, long)))
+      ∙ ap (λ t. drop (2 * d) (run n ++ t)) kept
       ∙ run-drop (point b store S) F (w .control) m d (w .history)
 
   pub history-written : (m d : ℕ) → d + m ≤ 64 → part (written (d + m)) (128 - 2 * m) 81 ≡ voiceAfter b store S w m .history
@@ -110,10 +110,10 @@ module _ (b store : List ℤ) (S : ℕ) (w : Voice) (l : length (w .history) ≡
   pub length-written : (n : ℕ) → n ≤ 64 → length (written n) ≡ 209
   length-written n h =
       let r = length-run (point b store S) F (w .control) n in
-      length-overwrite (lineOf (w .history)) (run n) (128 - 2 * n) (omega (arith, r, length-line (w .history) l)) ∙ length-line (w .history) l
+      length-overwrite line (run n) (128 - 2 * n) (omega (arith, r, long)) ∙ long
 
   -- every word of it is small
-  module _ (a : Accepted b) (s : Sound F (w .control)) (small : (k : ℕ) → natAbs (at (w .history) k) ≤ 2 ^ 29) where
+  module _ (a : Accepted b) (s : Sound F (w .control)) (small : (k : ℕ) → natAbs (at line k) ≤ 2 ^ 29) where
     control-sound : (n : ℕ) → Sound F (controlAfter F (w .control) n)
     unfolding controlAfter
     control-sound zero = s
@@ -123,7 +123,7 @@ module _ (b store : List ℤ) (S : ℕ) (w : Voice) (l : length (w .history) ≡
     written-small n =
         let none : natAbs (pos 0) ≤ 2 ^ 29 = omega arith in
         let Small : ℤ → Type 0 = λ x. natAbs x ≤ 2 ^ 29 in
-        overwrite-every Small none (lineOf (w .history)) (run n) (128 - 2 * n) (line-every Small none (w .history) small)
+        overwrite-every Small none line (run n) (128 - 2 * n) small
         (run-all (point b store S) F (w .control) Small n
         (λ k h. let one = moveGlide-sound (control-sound k) in (point-small b store S a one, point-small b store S a (movePoint-sound one)))
         none)
@@ -137,18 +137,23 @@ tabulate-take zs zero f h g = refl
 tabulate-take [] (suc n) f h g = absurd (omega arith)
 tabulate-take (z ∷ zs) (suc n) f h g = ap₂ _∷_ (g 0 (omega arith)) (tabulate-take zs n (λ k. f (suc k)) (omega arith) (λ k l. g (suc k) (omega arith)))
 
+pub tabulate-part : (zs : List ℤ) (a n : ℕ) (f : ℕ → ℤ) → a + n ≤ length zs → ((k : ℕ) → k < n → f k ≡ at zs (a + k)) → tabulate n f ≡ part zs a n
+tabulate-part zs a n f h g = tabulate-take (drop a zs) n f (simp length-drop (omega arith)) (λ k l. g k l ∙ sym (getD-drop a zs k (pos 0)))
+
 -- n words more of ys
 paste-run : (xs ys : List ℤ) (i n : ℕ) (f : ℕ → ℤ) → i + n ≤ length xs → i + n ≤ length ys → ((k : ℕ) → k < n → f k ≡ at ys (i + k))
     → overwrite (paste xs 0 ys i) i (tabulate n f) ≡ paste xs 0 ys (i + n)
 paste-run xs ys i n f room h g =
-    let rest : tabulate n f ≡ part ys i n = tabulate-take (drop i ys) n f (simp length-drop (omega arith)) (λ k l. g k l ∙ sym (getD-drop i ys k (pos 0))) in
+    let rest : tabulate n f ≡ part ys i n = tabulate-part ys i n f h g in
     let e : i ≡ 0 + i = omega arith in
     ap₂ (overwrite (paste xs 0 ys i)) e rest ∙ paste-part xs ys 0 i n (omega arith) h
 
 pub record Filled (b store : List ℤ) (S : ℕ) (v : Voice) (out₀ : List ℤ) (d : Control) (line out : List ℤ) (i : ℕ) : Type 0 where
   pub count : i ≤ length out₀
   pub control : d ≡ voiceAfter b store S v i .control
-  pub points : line ≡ lineOf (voiceAfter b store S v i .history)
+  pub long : length line ≡ 209
+  pub points : drop 128 line ≡ voiceAfter b store S v i .history
+  pub small : (k : ℕ) → natAbs (at line k) ≤ 2 ^ 29
   pub words : out ≡ paste out₀ 0 (outputs b store S v (length out₀)) i
 
 module _ (b store : List ℤ) (S : ℕ) where
@@ -174,15 +179,22 @@ module _ {b store : List ℤ} {S : ℕ} {v : Voice} {out₀ : List ℤ} {d : Con
   make = point b store S
 
   -- the line that the run leaves
-  line-is : {line₁ : List ℤ} (n : ℕ) → line₁ ≡ overwrite line (128 - 2 * n) (runPoints make (sizesOf b .fade) d n) → line₁ ≡ written b store S w w-length n
-  line-is n e = e ∙ ap₂ (λ x c. overwrite x (128 - 2 * n) (runPoints make (sizesOf b .fade) c n)) (p .points) (p .control)
+  line-is : {line₁ : List ℤ} (n : ℕ) → line₁ ≡ overwrite line (128 - 2 * n) (runPoints make (sizesOf b .fade) d n) → line₁ ≡ written b store S w w-length line (p .long) (p .points) n
+  line-is n e = e ∙ ap (λ c. overwrite line (128 - 2 * n) (runPoints make (sizesOf b .fade) c n)) (p .control)
+
+  -- every word of it is small
+  pub run-small : Accepted b → Sound (sizesOf b .fade) (v .control) → {line₁ : List ℤ} (n : ℕ) → line₁ ≡ overwrite line (128 - 2 * n) (runPoints make (sizesOf b .fade) d n)
+      → (k : ℕ) → natAbs (at line₁ k) ≤ 2 ^ 29
+  run-small a s n e k =
+      let sound = after-ready b store S v i {words = levelStart S (v .control .top + 1)} refl refl s (omega arith) .0 in
+      rw (line-is n e) (written-small b store S w w-length line (p .long) (p .points) a sound (p .small) n k)
 
   module _ (n : ℕ) (few : n ≤ 64) (room : i + n ≤ length out₀) {line₁ : List ℤ} (line-e : line₁ ≡ overwrite line (128 - 2 * n) (runPoints make (sizesOf b .fade) d n)) where
     -- the history after m of the run's outputs
     after : (m k : ℕ) → k + m ≡ n → part line₁ (128 - 2 * m) 81 ≡ voiceAfter b store S v (i + m) .history
     after m k e =
-        ap (λ x. part x (128 - 2 * m) 81) (line-is n line-e ∙ ap (written b store S w w-length) (sym e))
-        ∙ history-written b store S w w-length m k (omega (arith, e))
+        ap (λ x. part x (128 - 2 * m) 81) (line-is n line-e ∙ ap (written b store S w w-length line (p .long) (p .points)) (sym e))
+        ∙ history-written b store S w w-length line (p .long) (p .points) m k (omega (arith, e))
         ∙ ap (λ u. u .history) (sym (voiceAfter-+ b store S v i m))
 
     -- and the outputs of each
@@ -195,19 +207,33 @@ module _ {b store : List ℤ} {S : ℕ} {v : Voice} {out₀ : List ℤ} {d : Con
         ∙ ap (λ m. output b (voiceAfter b store S v m .history)) (add-suc i k)
         ∙ sym (at-outputs b store S v (length out₀) (i + k) (omega arith))
 
-    pub filled-more : {line₂ out₁ : List ℤ} {d₁ : Control} → d₁ ≡ controlAfter (sizesOf b .fade) d n → out₁ ≡ overwrite out i (tabulate n (λ k. output b (part line₁ (126 - 2 * k) 81)))
-        → line₂ ≡ lineOf (part line₁ (128 - 2 * n) 81) → Filled b store S v out₀ d₁ line₂ out₁ (i + n)
-    filled-more control words points = record {
-      count = room;
-      control = control
-          ∙ ap (λ c. controlAfter (sizesOf b .fade) c n) (p .control)
-          ∙ sym (control-after b store S w n)
-          ∙ ap (λ u. u .control) (sym (voiceAfter-+ b store S v i n));
-      points = points ∙ ap lineOf (after n 0 (omega arith));
-      words = words
-          ∙ ap (λ o. overwrite o i (tabulate n (λ k. output b (part line₁ (126 - 2 * k) 81)))) (p .words)
-          ∙ paste-run out₀ (outputs b store S v (length out₀)) i n _ room (omega (arith, length-outputs b store S v (length out₀))) output-is;
-    }
+    abbrev newest : List ℤ
+    newest = part line₁ (128 - 2 * n) 81
+
+    pub line-long : length line₁ ≡ 209
+    line-long = ap length (line-is n line-e) ∙ length-written b store S w w-length line (p .long) (p .points) n few
+
+    newest-length : length newest ≡ 81
+    newest-length = part-length line₁ (128 - 2 * n) 81 (omega (arith, line-long))
+
+    pub filled-more : {line₂ out₁ : List ℤ} {d₁ : Control} → ((k : ℕ) → natAbs (at line₁ k) ≤ 2 ^ 29) → d₁ ≡ controlAfter (sizesOf b .fade) d n
+        → out₁ ≡ overwrite out i (tabulate n (λ k. output b (part line₁ (126 - 2 * k) 81))) → line₂ ≡ overwrite line₁ 128 newest → Filled b store S v out₀ d₁ line₂ out₁ (i + n)
+    filled-more small control words points =
+        let Small : ℤ → Type 0 = λ x. natAbs x ≤ 2 ^ 29 in
+        let none : Small (pos 0) = omega arith in
+        record {
+          count = room;
+          control = control
+              ∙ ap (λ c. controlAfter (sizesOf b .fade) c n) (p .control)
+              ∙ sym (control-after b store S w n)
+              ∙ ap (λ u. u .control) (sym (voiceAfter-+ b store S v i n));
+          long = ap length points ∙ length-overwrite line₁ newest 128 (omega (arith, newest-length, line-long)) ∙ line-long;
+          points = ap (drop 128) points ∙ overwrite-end line₁ newest 128 (omega (arith, newest-length, line-long)) ∙ after n 0 (omega arith);
+          small = rw points (overwrite-every Small none line₁ newest 128 small (take-every Small none 81 (drop (128 - 2 * n) line₁) (drop-every Small none (128 - 2 * n) line₁ small)));
+          words = words
+              ∙ ap (λ o. overwrite o i (tabulate n (λ k. output b (part line₁ (126 - 2 * k) 81)))) (p .words)
+              ∙ paste-run out₀ (outputs b store S v (length out₀)) i n _ room (omega (arith, length-outputs b store S v (length out₀))) output-is;
+        }
 
 -- ---- what the next run asks for
 
@@ -219,27 +245,14 @@ pub filled-ready : {b store : List ℤ} {S : ℕ} {v : Voice} {out₀ : List ℤ
     → Sound (sizesOf b .fade) (v .control) → levelStart S (v .control .top + 1) ≤ words → Sound F d × (levelStart S (d .top + 1) ≤ words)
 filled-ready {b} {store} {S} {v} {i = i} p f s room = rw (p .control) (after-ready b store S v i refl f s room)
 
-pub filled-small : {b store : List ℤ} {S : ℕ} {v : Voice} {out₀ : List ℤ} {d : Control} {line out : List ℤ} {i : ℕ} → Filled b store S v out₀ d line out i → (l : length (v .history) ≡ 81)
-    → Accepted b → Sound (sizesOf b .fade) (v .control) → ((k : ℕ) → k < 81 → natAbs (at (v .history) k) ≤ 2 ^ 29)
-    → (k : ℕ) → natAbs (at (voiceAfter b store S v i .history) k) ≤ 2 ^ 29
-filled-small {b} {store} {S} {v} {i = i} p l a s small k = go (decLt k 81)
-  where
-    go : Dec (k < 81) → natAbs (at (voiceAfter b store S v i .history) k) ≤ 2 ^ 29
-    go (yes h) = after-within b store S v a s small i k h
-    go (no h) = rw (at-outside (voiceAfter b store S v i .history) k (omega (arith, length-history b store S v l i))) (omega arith)
-
-pub run-small : {b store : List ℤ} {S : ℕ} {v : Voice} {out₀ : List ℤ} {d : Control} {line out : List ℤ} {i : ℕ} {line₁ : List ℤ} (p : Filled b store S v out₀ d line out i) (l : length (v .history) ≡ 81)
-    → Accepted b → Sound (sizesOf b .fade) (v .control) → ((k : ℕ) → k < 81 → natAbs (at (v .history) k) ≤ 2 ^ 29) → (n : ℕ)
-    → line₁ ≡ overwrite line (128 - 2 * n) (runPoints (point b store S) (sizesOf b .fade) d n) → (k : ℕ) → natAbs (at line₁ k) ≤ 2 ^ 29
-run-small {b} {store} {S} {v} {i = i} p l a s small n e k =
-    rw (line-is p l n e)
-    (written-small b store S (voiceAfter b store S v i) (length-history b store S v l i) a (after-ready b store S v i {words = levelStart S (v .control .top + 1)} refl refl s (omega arith) .0) (filled-small p l a s small) n k)
-
 -- ---- the voice at the end
 
-pub end-history : {b store : List ℤ} {S : ℕ} {v : Voice} {out₀ : List ℤ} {d : Control} {line out : List ℤ} {i : ℕ} → Filled b store S v out₀ d line out i → length (v .history) ≡ 81
-    → part line 128 81 ≡ voiceAfter b store S v i .history
-end-history {b} {store} {S} {v} {i = i} p l =
-    let h = voiceAfter b store S v i .history in
-    let e = length-history b store S v l i in
-    ap (λ x. part x 128 81) (p .points) ∙ ap (take 81) (line-history h e) ∙ take-all 81 h (omega (arith, e))
+module _ {b store : List ℤ} {S : ℕ} {v : Voice} {out₀ : List ℤ} {d : Control} {line out : List ℤ} {i : ℕ} (p : Filled b store S v out₀ d line out i) where
+  pub end-history : length (v .history) ≡ 81 → part line 128 81 ≡ voiceAfter b store S v i .history
+  end-history l = ap (take 81) (p .points) ∙ take-all 81 (voiceAfter b store S v i .history) (omega (arith, length-history b store S v l i))
+
+  pub end-small : (k : ℕ) → natAbs (at (part line 128 81) k) ≤ 2 ^ 29
+  end-small =
+      let Small : ℤ → Type 0 = λ x. natAbs x ≤ 2 ^ 29 in
+      let none : Small (pos 0) = omega arith in
+      take-every Small none 81 (drop 128 line) (drop-every Small none 128 line (p .small))

@@ -5,7 +5,7 @@ ghost use mathlib.Core.Path.{_≡_};
 ghost use Prim.Native.Nat.{ℕ, _+_, _*_, _^_, _≤_, _<_, min};
 ghost use lib.IntN.{natAbs};
 ghost use lib.ListN.{length};
-ghost use Rattle.arith.specs.Lists.{at, part};
+ghost use Rattle.arith.specs.Lists.{at, part, overwrite};
 ghost use Rattle.book.specs.Book.{sizesOf};
 ghost use Rattle.book.specs.Check.{bookNumber};
 ghost use Rattle.levels.specs.Sizes.{levelStart};
@@ -71,6 +71,18 @@ fn newest(line: [i64; 209], start: usize) -> [i64; 81]
     points
 }
 
+// Moves the 81 points from place `start` on to place 128, the last first, since the places may overlap.
+fn keep_newest(line: &mut [i64], start: usize)
+    requires { ⌜ (length (now line) ≡ 209) × (start ≤ 128) ⌝ }
+    ensures { λ _. ⌜ now (line .exit) ≡ overwrite (now (line .entry)) 128 (part (now (line .entry)) start 81) ⌝ }
+{
+    let mut k = 81;
+    while 0 < k {
+        k -= 1;
+        line[128 + k] = line[start + k];
+    }
+}
+
 // How many of `left` outputs the next run may make.
 fn run_length(left: usize) -> usize
     ensures { λ r. ⌜ r ≡ min 64 left ⌝ }
@@ -125,7 +137,7 @@ fn fill_by(
         );
         let made = r.made;
         write_outputs(book, decimation, &line, made, i, out);
-        line = line_of(newest(line, 128 - 2 * made));
+        keep_newest(&mut line, 128 - 2 * made);
         control = r.control;
         i += made;
     }

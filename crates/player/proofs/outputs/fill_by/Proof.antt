@@ -4,12 +4,13 @@ use mathlib.Core.Path.{_≡_, refl, sym, ap, ap₂, _∙_}
 use mathlib.Core.List.{List}
 use Prim.Native.Nat.{ℕ, suc, _+_, _-_, _*_, _^_, _≤_, _<_, min}
 use native.Mathlib.Nat.{le-trans, le-of-eq, le-min, min-le-left, min-le-right}
+use native.Mathlib.Decide.{decLt}
 use native.Mathlib.Omega.{arith}
 use lib.IntN.{ℤ, pos, natAbs}
 use lib.ListN.{length, drop}
 use lib.Seq.{paste}
 use Rattle.arith.specs.Lists.{at, part, overwrite}
-use Rattle.arith.proofs.Lists.{paste-none, paste-whole}
+use Rattle.arith.proofs.Lists.{at-outside, paste-none, paste-whole}
 use Rattle.book.specs.Book.{sizesOf}
 use Rattle.book.proofs.Bounds.{length-is}
 use Rattle.book.proofs.Accepted.{Accepted, accepted, sizes-bounded}
@@ -19,7 +20,7 @@ use Rattle.player.specs.Outputs.{voiceAfter, outputs}
 use Rattle.player.specs.Points.{point}
 use Rattle.player.specs.Inner.{controlAfter, runPoints, lineOf}
 use Rattle.player.proofs.Blocks.{after-ready, length-outputs}
-use Rattle.player.proofs.Filled.{Filled, length-line, line-history, filled-more, filled-length, filled-ready, filled-small, run-small, end-history}
+use Rattle.player.proofs.Filled.{Filled, length-line, line-history, line-every, line-long, filled-more, filled-length, filled-ready, run-small, end-history, end-small}
 use Rattle.player.proofs.outputs.fill_by.Statement.{statement}
 use Rattle.player.proofs.outputs.fill_by.Tie as tie
 
@@ -29,7 +30,7 @@ voiceWith control line = record { control = control; history = drop 128 line }
 
 abbrev Inv-loop : tie.InvT-loop
 Inv-loop table book store samples out₀ phases taps fade starts decimation control₀ line₀ positions₀ i₀ out control line positions i =
-    (length line ≡ 209) × (length positions ≡ 128) × Filled book store samples (voiceWith control₀ line₀) out₀ control line out i
+    (length positions ≡ 128) × Filled book store samples (voiceWith control₀ line₀) out₀ control line out i
 
 abbrev μ-loop : tie.MeasureT-loop
 μ-loop table book store samples out₀ phases taps fade starts decimation control₀ line₀ positions₀ i₀ out control line positions i = length out₀ - i
@@ -102,19 +103,24 @@ module _ (c : tie.After-line-of Inv-loop μ-loop) where
   voice-is : voice₀ ≡ v start
   voice-is = ap (λ h. record { control = v start .control; history = h }) (history-is ∙ c .before .widened .ensures)
 
-  small₀ : (k : ℕ) → k < 81 → natAbs (at (voice₀ .history) k) ≤ 2 ^ 29
-  small₀ k h = rw (history-is ∙ c .before .widened .ensures) (start .pre .1 .1 .1 k h)
+  small₀ : (k : ℕ) → natAbs (at (c .before .widened .result) k) ≤ 2 ^ 29
+  small₀ k = go (decLt k 81)
+    where
+      go : Dec (k < 81) → natAbs (at (c .before .widened .result) k) ≤ 2 ^ 29
+      go (yes h) = rw (c .before .widened .ensures) (start .pre .1 .1 .1 k h)
+      go (no h) = rw (at-outside (c .before .widened .result) k (omega (arith, length-widened))) (omega arith)
 
 loop-holds : tie.Need-loop-holds Inv-loop μ-loop
 unfolding voiceAfter
 loop-holds c =
     let s = start c in (
-      ap length (line-is c) ∙ length-line (c .before .widened .result) (length-widened c),
       refl,
       record {
         count = omega arith;
         control = refl;
-        points = line-is c ∙ ap lineOf (sym (history-is c));
+        long = ap length (line-is c) ∙ length-line (c .before .widened .result) (length-widened c);
+        points = refl;
+        small = rw (line-is c) (line-every (λ x. natAbs x ≤ 2 ^ 29) (omega arith) (c .before .widened .result) (small₀ c));
         words = paste-none (out₀ s) 0 (outputs (b s) (store s) (S s) (voice₀ c) (length (out₀ s)));
       },
     )
@@ -129,7 +135,7 @@ module _ (a : tie.At-loop Inv-loop μ-loop) where
   i = a .loop .i
 
   filled : Filled (b s) (store s) (S s) (voice₀ (a .before)) (out₀ s) (a .loop .control) (a .loop .line) (a .loop .out) i
-  filled = a .loop .inv .2
+  filled = a .loop .inv .1
 
   out-length : length (a .loop .out) ≡ length (out₀ s)
   out-length = filled-length filled
@@ -147,10 +153,10 @@ run-length-requires : tie.Need-run-length-requires Inv-loop μ-loop
 run-length-requires c κs = search needs
 
 slice-aggregate-next-points : tie.Need-slice-aggregate-next-points Inv-loop μ-loop
-slice-aggregate-next-points c = sym (c .before .before .before .loop .inv .0)
+slice-aggregate-next-points c = sym (filled (c .before .before .before) .long)
 
 slice-aggregate-next-points-2 : tie.Need-slice-aggregate-next-points-2 Inv-loop μ-loop
-slice-aggregate-next-points-2 c = sym (c .before .before .before .before .loop .inv .1)
+slice-aggregate-next-points-2 c = sym (c .before .before .before .before .loop .inv .0)
 
 next-points-requires : tie.Need-next-points-requires Inv-loop μ-loop
 next-points-requires c κs =
@@ -162,7 +168,7 @@ next-points-requires c κs =
       (u .pre .1 .0 .0, ap (λ z. z .phases) e, ap (λ z. z .taps) e, fade-is a),
       (
         (u .pre .1 .0 .1, a .before .before .before .before .before .before .level-starts .ensures),
-        ((ready .0, ready .1, a .loop .inv .0, a .loop .inv .1, rw r (le-min (omega arith) (omega arith)), rw r (min-le-left 64 _)), u .pre .0),
+        ((ready .0, ready .1, filled a .long, a .loop .inv .0, rw r (le-min (omega arith) (omega arith)), rw r (min-le-left 64 _)), u .pre .0),
       ),
     )
 
@@ -194,55 +200,54 @@ module _ (n : tie.After-next-points Inv-loop μ-loop) where
   line-e : line₁ ≡ overwrite (turn .loop .line) (128 - 2 * made) (runPoints (point (b first) (store first) (S first)) (sizesOf (b first) .fade) (turn .loop .control) made)
   line-e = n .next-points .ensures .1 ∙ ap (λ F. overwrite (turn .loop .line) (128 - 2 * made) (runPoints (point (b first) (store first) (S first)) F (turn .loop .control) made)) (fade-is turn)
 
+  long : length line₁ ≡ 209
+  long = line-long (filled turn) (length-history (turn .before)) made few room line-e
+
+  points-small : (k : ℕ) → natAbs (at line₁ k) ≤ 2 ^ 29
+  points-small = run-small (filled turn) (length-history (turn .before)) (book first) (first .pre .1 .0 .2) made line-e
+
 write-outputs-requires : tie.Need-write-outputs-requires Inv-loop μ-loop
 write-outputs-requires c κs =
     let n = c .before .before .before .before in
     let a = turn n in
     let u = s a in (
       (u .pre .1 .0 .0, c .before .before .before .before .before .before .before .before .before .before .before .before .before .before .before .decimation-taps .ensures, few n, omega (arith, room n, out-length a)),
-      run-small (filled a) (length-history (a .before)) (book u) (u .pre .1 .0 .2) (small₀ (a .before)) (made n) (line-e n),
+      points-small n,
     )
 
-mul-newest : tie.Need-mul-newest Inv-loop μ-loop
-mul-newest c = omega (arith, few (c .before .before .before .before .before .before))
+slice-aggregate-keep-newest : tie.Need-slice-aggregate-keep-newest Inv-loop μ-loop
+slice-aggregate-keep-newest c = sym (long (c .before .before .before .before .before .before .before))
 
-sub-newest : tie.Need-sub-newest Inv-loop μ-loop
-sub-newest c = omega (arith, few (c .before .before .before .before .before .before))
+mul-keep-newest : tie.Need-mul-keep-newest Inv-loop μ-loop
+mul-keep-newest c = omega (arith, few (c .before .before .before .before .before .before .before))
+
+sub-keep-newest : tie.Need-sub-keep-newest Inv-loop μ-loop
+sub-keep-newest c = omega (arith, few (c .before .before .before .before .before .before .before))
+
+keep-newest-requires : tie.Need-keep-newest-requires Inv-loop μ-loop
+keep-newest-requires c κs = (long (c .before .before .before .before .before .before .before), omega arith)
+
+add-i : tie.Need-add-i Inv-loop μ-loop
+add-i c = let n = c .before .before .before .before .before .before .before .before .before .before in omega (arith, room n, out-fits (first n))
+
+loop-less : tie.Need-loop-less Inv-loop μ-loop
+loop-less c = let n = c .before .before .before .before .before .before .before .before .before .before in omega (arith, room n, n .next-points .ensures .0 .0)
+
+loop-again : tie.Need-loop-again Inv-loop μ-loop
+loop-again c =
+    let n = c .before .before .before .before .before .before .before .before .before .before in
+    let a = turn n in
+    let w = c .before .before .before .before .before in
+    let control : n .next-points .result .control ≡ controlAfter (sizesOf (b (first n)) .fade) (a .loop .control) (made n) = n .next-points .ensures .0 .2 ∙ ap (λ F. controlAfter F (a .loop .control) (made n)) (fade-is a) in (
+      n .next-points .ensures .0 .3,
+      filled-more (filled a) (length-history (a .before)) (made n) (few n) (room n) (line-e n) (points-small n) control (w .write-outputs .ensures) (c .before .before .keep-newest .ensures),
+    )
 
 newest-requires : tie.Need-newest-requires Inv-loop μ-loop
 newest-requires c κs = omega arith
 
-line-of-requires-2 : tie.Need-line-of-requires-2 Inv-loop μ-loop
-line-of-requires-2 c κs = search needs
-
-add-i : tie.Need-add-i Inv-loop μ-loop
-add-i c = let n = c .before .before .before .before .before .before .before .before .before in omega (arith, room n, out-fits (first n))
-
-loop-less : tie.Need-loop-less Inv-loop μ-loop
-loop-less c = let n = c .before .before .before .before .before .before .before .before .before in omega (arith, room n, n .next-points .ensures .0 .0)
-
-loop-again : tie.Need-loop-again Inv-loop μ-loop
-loop-again c =
-    let n = c .before .before .before .before .before .before .before .before .before in
-    let a = turn n in
-    let w = c .before .before .before .before in
-    let newest = c .before .before .newest in
-    let line : c .before .line-of2 .result ≡ lineOf (part (line₁ n) (128 - 2 * made n) 81) = c .before .line-of2 .ensures ∙ ap lineOf (newest .ensures) in
-    let control : n .next-points .result .control ≡ controlAfter (sizesOf (b (first n)) .fade) (a .loop .control) (made n) = n .next-points .ensures .0 .2 ∙ ap (λ F. controlAfter F (a .loop .control) (made n)) (fade-is a) in (
-      omega (arith, c .before .line-of2 .ok),
-      n .next-points .ensures .0 .3,
-      filled-more (filled a) (length-history (a .before)) (made n) (few n) (room n) (line-e n) control (w .write-outputs .ensures) line,
-    )
-
-newest-requires-2 : tie.Need-newest-requires-2 Inv-loop μ-loop
-newest-requires-2 c κs = search needs
-
 narrowed-requires : tie.Need-narrowed-requires Inv-loop μ-loop
-narrowed-requires c κs =
-    let a = c .before .before in
-    let u = s a in
-    let e : c .newest2 .result ≡ voiceAfter (b u) (store u) (S u) (voice₀ (a .before)) (i a) .history = c .newest2 .ensures ∙ end-history (filled a) (length-history (a .before)) in
-    λ k. le-trans (le-of-eq (ap (λ h. natAbs (at h k)) e)) (filled-small (filled a) (length-history (a .before)) (book u) (u .pre .1 .0 .2) (small₀ (a .before)) k)
+narrowed-requires c κs = let a = c .before .before in rw (c .newest .ensures) (end-small (filled a))
 
 same-length : tie.Need-same-length Inv-loop μ-loop
 same-length c = out-length (c .before .before .before)
@@ -254,7 +259,7 @@ returns c =
     let l = a .before in
     let n = length (out₀ u) in
     let e : i a ≡ n = omega (arith, out-length a, filled a .count) in
-    let history : c .narrowed .result ≡ voiceAfter (b u) (store u) (S u) (voice₀ l) (i a) .history = c .narrowed .ensures ∙ c .before .newest2 .ensures ∙ end-history (filled a) (length-history l) in
+    let history : c .narrowed .result ≡ voiceAfter (b u) (store u) (S u) (voice₀ l) (i a) .history = c .narrowed .ensures ∙ c .before .newest .ensures ∙ end-history (filled a) (length-history l) in
     let w : List ℤ = outputs (b u) (store u) (S u) (voice₀ l) n in
     let all : length w ≡ n = length-outputs (b u) (store u) (S u) (voice₀ l) n in (
       ap₂ {C = Voice} (λ d h. record { control = d; history = h }) (filled a .control) history
@@ -283,14 +288,14 @@ fill-by-spec =
     slice-aggregate-next-points-2
     next-points-requires
     write-outputs-requires
-    mul-newest
-    sub-newest
-    newest-requires
-    line-of-requires-2
+    slice-aggregate-keep-newest
+    mul-keep-newest
+    sub-keep-newest
+    keep-newest-requires
     add-i
     loop-less
     loop-again
-    newest-requires-2
+    newest-requires
     narrowed-requires
     same-length
     returns)
