@@ -247,12 +247,6 @@ filled-ready {b} {store} {S} {v} {i = i} p f s room = rw (p .control) (after-rea
 
 -- ---- the voice at the end
 
-module _ {b store : List ℤ} {S : ℕ} {v : Voice} {out₀ : List ℤ} {d : Control} {line out : List ℤ} {i : ℕ} (p : Filled b store S v out₀ d line out i) where
-  pub end-history : length (v .history) ≡ 81 → part line 128 81 ≡ voiceAfter b store S v i .history
-  end-history l = ap (take 81) (p .points) ∙ take-all 81 (voiceAfter b store S v i .history) (omega (arith, length-history b store S v l i))
-
-  pub end-small : (k : ℕ) → natAbs (at (part line 128 81) k) ≤ 2 ^ 29
-  end-small =
-      let Small : ℤ → Type 0 = λ x. natAbs x ≤ 2 ^ 29 in
-      let none : Small (pos 0) = omega arith in
-      take-every Small none 81 (drop 128 line) (drop-every Small none 128 line (p .small))
+pub end-history : {b store : List ℤ} {S : ℕ} {v : Voice} {out₀ : List ℤ} {d : Control} {line out : List ℤ} {i : ℕ} → Filled b store S v out₀ d line out i → length (v .history) ≡ 81
+    → part line 128 81 ≡ voiceAfter b store S v i .history
+end-history {b} {store} {S} {v} {i = i} p l = ap (take 81) (p .points) ∙ take-all 81 (voiceAfter b store S v i .history) (omega (arith, length-history b store S v l i))

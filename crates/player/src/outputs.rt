@@ -4,7 +4,7 @@ ghost use mathlib.Core.Bool.{true};
 ghost use mathlib.Core.Path.{_≡_};
 ghost use Prim.Native.Nat.{ℕ, _+_, _*_, _^_, _≤_, _<_, min};
 ghost use lib.IntN.{natAbs};
-ghost use lib.ListN.{length};
+ghost use lib.ListN.{length, drop};
 ghost use Rattle.arith.specs.Lists.{at, part, overwrite};
 ghost use Rattle.book.specs.Book.{sizesOf};
 ghost use Rattle.book.specs.Check.{bookNumber};
@@ -17,58 +17,31 @@ use crate::decimation::write_outputs;
 use crate::runs::next_points;
 use crate::table::stage_rows;
 
-// The points of a history, widened to 64 bits.
-fn widened(history: [i32; 81]) -> [i64; 81]
-    ensures { λ r. ⌜ r ≡ history ⌝ }
-{
-    let mut points = [0i64; 81];
-    let mut k = 0;
-    while k < 81 {
-        points[k] = history[k] as i64;
-        k += 1;
-    }
-    points
-}
-
-// The same points, narrowed to 32 bits again.
-fn narrowed(points: [i64; 81]) -> [i32; 81]
-    requires { ⌜ ((k : ℕ) → natAbs (at points k) ≤ 2 ^ 29) ⌝ }
-    ensures { λ r. ⌜ r ≡ points ⌝ }
-{
-    let mut history = [0i32; 81];
-    let mut k = 0;
-    while k < 81 {
-        history[k] = points[k] as i32;
-        k += 1;
-    }
-    history
-}
-
-// The line before a run.
-fn line_of(points: [i64; 81]) -> [i64; 209]
-    ensures { λ r. ⌜ r ≡ lineOf points ⌝ }
+// The line before a run: a history, widened to 64 bits, from place 128 on.
+fn line_of(history: [i32; 81]) -> [i64; 209]
+    ensures { λ r. ⌜ (r ≡ lineOf history) × (drop 128 r ≡ history) ⌝ }
 {
     let mut line = [0i64; 209];
     let mut k = 0;
     while k < 81 {
-        line[128 + k] = points[k];
+        line[128 + k] = history[k] as i64;
         k += 1;
     }
     line
 }
 
-// The 81 points from place `start` on.
-fn newest(line: [i64; 209], start: usize) -> [i64; 81]
-    requires { ⌜ start ≤ 128 ⌝ }
-    ensures { λ r. ⌜ r ≡ part line start 81 ⌝ }
+// The history after a run, narrowed to 32 bits again.
+fn history_of(line: [i64; 209]) -> [i32; 81]
+    requires { ⌜ ((k : ℕ) → natAbs (at line k) ≤ 2 ^ 29) ⌝ }
+    ensures { λ r. ⌜ r ≡ part line 128 81 ⌝ }
 {
-    let mut points = [0i64; 81];
+    let mut history = [0i32; 81];
     let mut k = 0;
     while k < 81 {
-        points[k] = line[start + k];
+        history[k] = line[128 + k] as i32;
         k += 1;
     }
-    points
+    history
 }
 
 // Moves the 81 points from place `start` on to place 128, the last first, since the places may overlap.
@@ -116,7 +89,7 @@ fn fill_by(
     let decimation = book::decimation_taps(book);
     let history = v.history;
     let mut control = v.control;
-    let mut line = line_of(widened(history));
+    let mut line = line_of(history);
     let mut positions = [0u64; 128];
     let mut i = 0;
     while i < out.len() {
@@ -141,7 +114,7 @@ fn fill_by(
         control = r.control;
         i += made;
     }
-    let history = narrowed(newest(line, 128));
+    let history = history_of(line);
     Voice { control, history }
 }
 

@@ -7,7 +7,7 @@ use native.Mathlib.Nat.{le-trans, le-of-eq, le-min, min-le-left, min-le-right}
 use native.Mathlib.Decide.{decLt}
 use native.Mathlib.Omega.{arith}
 use lib.IntN.{ℤ, pos, natAbs}
-use lib.ListN.{length, drop}
+use lib.ListN.{length, drop, length-drop}
 use lib.Seq.{paste}
 use Rattle.arith.specs.Lists.{at, part, overwrite}
 use Rattle.arith.proofs.Lists.{at-outside, paste-none, paste-whole}
@@ -20,7 +20,7 @@ use Rattle.player.specs.Outputs.{voiceAfter, outputs}
 use Rattle.player.specs.Points.{point}
 use Rattle.player.specs.Inner.{controlAfter, runPoints, lineOf}
 use Rattle.player.proofs.Blocks.{after-ready, length-outputs}
-use Rattle.player.proofs.Filled.{Filled, length-line, line-history, line-every, line-long, filled-more, filled-length, filled-ready, run-small, end-history, end-small}
+use Rattle.player.proofs.Filled.{Filled, length-line, line-every, line-long, filled-more, filled-length, filled-ready, run-small, end-history}
 use Rattle.player.proofs.outputs.fill_by.Statement.{statement}
 use Rattle.player.proofs.outputs.fill_by.Tie as tie
 
@@ -71,16 +71,13 @@ level-starts-requires c κs = omega arith
 decimation-taps-requires : tie.Need-decimation-taps-requires Inv-loop μ-loop
 decimation-taps-requires c κs = c .before .before .before .pre .1 .0 .0
 
-widened-requires : tie.Need-widened-requires Inv-loop μ-loop
-widened-requires c κs = search needs
-
 line-of-requires : tie.Need-line-of-requires Inv-loop μ-loop
 line-of-requires c κs = search needs
 
 -- the line that the loop begins with
 module _ (c : tie.After-line-of Inv-loop μ-loop) where
   abbrev start : tie.Start Inv-loop μ-loop
-  start = c .before .before .before .before .before .before .before .before
+  start = c .before .before .before .before .before .before .before
 
   abbrev line₀ : List ℤ
   line₀ = c .line-of .result
@@ -88,27 +85,30 @@ module _ (c : tie.After-line-of Inv-loop μ-loop) where
   abbrev voice₀ : Voice
   voice₀ = voiceWith (v start .control) line₀
 
-  length-widened : length (c .before .widened .result) ≡ 81
-  length-widened = omega (arith, c .before .widened .ok)
+  abbrev history : List ℤ
+  history = v start .history
 
-  line-is : line₀ ≡ lineOf (c .before .widened .result)
-  line-is = c .line-of .ensures
+  line-is : line₀ ≡ lineOf history
+  line-is = c .line-of .ensures .0
 
-  history-is : drop 128 line₀ ≡ c .before .widened .result
-  history-is = ap (drop 128) line-is ∙ line-history (c .before .widened .result) length-widened
+  history-is : drop 128 line₀ ≡ history
+  history-is = c .line-of .ensures .1
 
   length-history : length (drop 128 line₀) ≡ 81
-  length-history = ap length history-is ∙ length-widened
+  length-history = simp length-drop (omega (arith, c .line-of .ok))
+
+  history-length : length history ≡ 81
+  history-length = sym (ap length history-is) ∙ length-history
 
   voice-is : voice₀ ≡ v start
-  voice-is = ap (λ h. record { control = v start .control; history = h }) (history-is ∙ c .before .widened .ensures)
+  voice-is = ap (λ h. record { control = v start .control; history = h }) history-is
 
-  small₀ : (k : ℕ) → natAbs (at (c .before .widened .result) k) ≤ 2 ^ 29
+  small₀ : (k : ℕ) → natAbs (at history k) ≤ 2 ^ 29
   small₀ k = go (decLt k 81)
     where
-      go : Dec (k < 81) → natAbs (at (c .before .widened .result) k) ≤ 2 ^ 29
-      go (yes h) = rw (c .before .widened .ensures) (start .pre .1 .1 .1 k h)
-      go (no h) = rw (at-outside (c .before .widened .result) k (omega (arith, length-widened))) (omega arith)
+      go : Dec (k < 81) → natAbs (at history k) ≤ 2 ^ 29
+      go (yes h) = start .pre .1 .1 .1 k h
+      go (no h) = rw (at-outside history k (omega (arith, history-length))) (omega arith)
 
 loop-holds : tie.Need-loop-holds Inv-loop μ-loop
 unfolding voiceAfter
@@ -118,9 +118,9 @@ loop-holds c =
       record {
         count = omega arith;
         control = refl;
-        long = ap length (line-is c) ∙ length-line (c .before .widened .result) (length-widened c);
+        long = ap length (line-is c) ∙ length-line (history c) (history-length c);
         points = refl;
-        small = rw (line-is c) (line-every (λ x. natAbs x ≤ 2 ^ 29) (omega arith) (c .before .widened .result) (small₀ c));
+        small = rw (line-is c) (line-every (λ x. natAbs x ≤ 2 ^ 29) (omega arith) (history c) (small₀ c));
         words = paste-none (out₀ s) 0 (outputs (b s) (store s) (S s) (voice₀ c) (length (out₀ s)));
       },
     )
@@ -140,10 +140,10 @@ module _ (a : tie.At-loop Inv-loop μ-loop) where
   out-length : length (a .loop .out) ≡ length (out₀ s)
   out-length = filled-length filled
 
-  sizes-are : a .before .before .before .before .before .before .before .before .read-sizes .result ≡ sizesOf (b s)
-  sizes-are = a .before .before .before .before .before .before .before .before .read-sizes .ensures
+  sizes-are : a .before .before .before .before .before .before .before .read-sizes .result ≡ sizesOf (b s)
+  sizes-are = a .before .before .before .before .before .before .before .read-sizes .ensures
 
-  fade-is : a .before .before .before .before .before .before .before .before .read-sizes .result .fade ≡ sizesOf (b s) .fade
+  fade-is : a .before .before .before .before .before .before .before .read-sizes .result .fade ≡ sizesOf (b s) .fade
   fade-is = ap (λ z. z .fade) sizes-are
 
 sub-run-length : tie.Need-sub-run-length Inv-loop μ-loop
@@ -167,7 +167,7 @@ next-points-requires c κs =
     let ready = filled-ready (filled a) (fade-is a) (u .pre .1 .0 .2) (u .pre .1 .1 .0) in (
       (u .pre .1 .0 .0, ap (λ z. z .phases) e, ap (λ z. z .taps) e, fade-is a),
       (
-        (u .pre .1 .0 .1, a .before .before .before .before .before .before .level-starts .ensures),
+        (u .pre .1 .0 .1, a .before .before .before .before .before .level-starts .ensures),
         ((ready .0, ready .1, filled a .long, a .loop .inv .0, rw r (le-min (omega arith) (omega arith)), rw r (min-le-left 64 _)), u .pre .0),
       ),
     )
@@ -211,7 +211,7 @@ write-outputs-requires c κs =
     let n = c .before .before .before .before in
     let a = turn n in
     let u = s a in (
-      (u .pre .1 .0 .0, c .before .before .before .before .before .before .before .before .before .before .before .before .before .before .before .decimation-taps .ensures, few n, omega (arith, room n, out-length a)),
+      (u .pre .1 .0 .0, c .before .before .before .before .before .before .before .before .before .before .before .before .before .before .decimation-taps .ensures, few n, omega (arith, room n, out-length a)),
       points-small n,
     )
 
@@ -243,23 +243,20 @@ loop-again c =
       filled-more (filled a) (length-history (a .before)) (made n) (few n) (room n) (line-e n) (points-small n) control (w .write-outputs .ensures) (c .before .before .keep-newest .ensures),
     )
 
-newest-requires : tie.Need-newest-requires Inv-loop μ-loop
-newest-requires c κs = omega arith
-
-narrowed-requires : tie.Need-narrowed-requires Inv-loop μ-loop
-narrowed-requires c κs = let a = c .before .before in rw (c .newest .ensures) (end-small (filled a))
+history-of-requires : tie.Need-history-of-requires Inv-loop μ-loop
+history-of-requires c κs = filled (c .before) .small
 
 same-length : tie.Need-same-length Inv-loop μ-loop
-same-length c = out-length (c .before .before .before)
+same-length c = out-length (c .before .before)
 
 returns : tie.Need-returns Inv-loop μ-loop
 returns c =
-    let a = c .before .before .before in
+    let a = c .before .before in
     let u = s a in
     let l = a .before in
     let n = length (out₀ u) in
     let e : i a ≡ n = omega (arith, out-length a, filled a .count) in
-    let history : c .narrowed .result ≡ voiceAfter (b u) (store u) (S u) (voice₀ l) (i a) .history = c .narrowed .ensures ∙ c .before .newest .ensures ∙ end-history (filled a) (length-history l) in
+    let history : c .history-of .result ≡ voiceAfter (b u) (store u) (S u) (voice₀ l) (i a) .history = c .history-of .ensures ∙ end-history (filled a) (length-history l) in
     let w : List ℤ = outputs (b u) (store u) (S u) (voice₀ l) n in
     let all : length w ≡ n = length-outputs (b u) (store u) (S u) (voice₀ l) n in (
       ap₂ {C = Voice} (λ d h. record { control = d; history = h }) (filled a .control) history
@@ -279,7 +276,6 @@ fill-by-spec =
     cast-fade
     level-starts-requires
     decimation-taps-requires
-    widened-requires
     line-of-requires
     loop-holds
     sub-run-length
@@ -295,7 +291,6 @@ fill-by-spec =
     add-i
     loop-less
     loop-again
-    newest-requires
-    narrowed-requires
+    history-of-requires
     same-length
     returns)

@@ -4,22 +4,24 @@ use mathlib.Core.List.{List}
 use Prim.Native.Nat.{ℕ, _+_, _-_, _≤_, _<_}
 use native.Mathlib.Omega.{arith}
 use lib.IntN.{ℤ, pos}
-use lib.ListN.{length, set, replicate}
+use lib.ListN.{length, set, drop, replicate}
 use lib.Seq.{paste}
-use mir.Syntax.{w64}
+use mir.Syntax.{w32}
 use mir.Val.{SFits}
+use mir.Facts.{sfits-widen}
 use Rattle.arith.specs.Lists.{at}
 use Rattle.arith.proofs.Bits.{reads}
 use Rattle.arith.proofs.Lists.{paste-none, paste-more, paste-all}
 use Rattle.player.specs.Inner.{lineOf}
+use Rattle.player.proofs.Filled.{line-history}
 use Rattle.player.proofs.outputs.line_of.Statement.{statement}
 use Rattle.player.proofs.outputs.line_of.Tie as tie
 
 abbrev Inv-loop : tie.InvT-loop
-Inv-loop points line₀ k₀ line k = (k ≤ 81) × (line ≡ paste line₀ 128 points k)
+Inv-loop history line₀ k₀ line k = (k ≤ 81) × (line ≡ paste line₀ 128 history k)
 
 abbrev μ-loop : tie.MeasureT-loop
-μ-loop points line₀ k₀ line k = 81 - k
+μ-loop history line₀ k₀ line k = 81 - k
 
 module _ (s : tie.Start Inv-loop μ-loop) where
   abbrev zeros : List ℤ
@@ -30,6 +32,10 @@ module _ (s : tie.Start Inv-loop μ-loop) where
 
   length-words : length words ≡ 81
   length-words = omega arith
+
+  whole : (k : ℕ) → k ≡ 81 → paste zeros 128 words k ≡ lineOf words
+  unfolding lineOf
+  whole k e = paste-all zeros 128 words k (omega (arith, length-words))
 
 -- the word that a turn writes
 module _ (c : tie.After-line Inv-loop μ-loop) where
@@ -42,7 +48,7 @@ module _ (c : tie.After-line Inv-loop μ-loop) where
   abbrev word : ℤ
   word = at (a .before .args .t1) k
 
-  word-fits : SFits w64 word
+  word-fits : SFits w32 word
   word-fits = record { sfits = c .line .given }
 
   written : set (a .loop .line) (128 + k) word ≡ paste (zeros (a .before)) 128 (words (a .before)) (k + 1)
@@ -58,6 +64,9 @@ mul-line c = omega arith
 
 array-copy-out-line : tie.Need-array-copy-out-line Inv-loop μ-loop
 array-copy-out-line c = omega arith
+
+cast-line : tie.Need-cast-line Inv-loop μ-loop
+cast-line c = simp (reads, word-fits c) (sfits-widen tt (word-fits c))
 
 add-line : tie.Need-add-line Inv-loop μ-loop
 add-line c = omega arith
@@ -78,11 +87,11 @@ loop-again : tie.Need-loop-again Inv-loop μ-loop
 loop-again c = (omega arith, simp (reads, word-fits c) (written c))
 
 returns : tie.Need-returns Inv-loop μ-loop
-unfolding lineOf
 returns c =
     let a = c .before in
     let s = a .before in
-    a .loop .inv .1 ∙ paste-all (zeros s) 128 (words s) (a .loop .k) (omega (arith, length-words s))
+    let all : a .loop .line ≡ lineOf (words s) = a .loop .inv .1 ∙ whole s (a .loop .k) (omega arith) in
+    (all, ap (drop 128) all ∙ line-history (words s) (length-words s))
 
 pub line-of-spec : {M : Type 1} → statement M
 line-of-spec =
@@ -93,6 +102,7 @@ line-of-spec =
     loop-holds
     mul-line
     array-copy-out-line
+    cast-line
     add-line
     mul-line-2
     array-set-from-line
