@@ -2,7 +2,7 @@
 -- Assumes nothing.
 use mathlib.Core.Path.{_≡_, refl, sym, ap, subst, _∙_}
 use mathlib.Core.List.{List}
-use Prim.Native.Nat.{ℕ, zero, suc, _+_, _-_, _*_, _^_, _≤_, _<_}
+use Prim.Native.Nat.{ℕ, suc, _+_, _-_, _*_, _^_, _≤_, _<_}
 use native.Mathlib.Nat.{le-trans, add-mul, mul-le-mul-left}
 use native.Mathlib.Decide.{decLt, ℕ-discrete}
 use native.Mathlib.Omega.{arith}
@@ -12,10 +12,10 @@ use lib.Seq.{getD-set-same, getD-set-other}
 use Rattle.player.specs.declared.Control.{Control}
 use Rattle.player.specs.Rate.{askedLevel, advance}
 use Rattle.player.specs.Points.{unit}
-use Rattle.player.specs.Moves.{noFade, moveGlide, pointPlan, movePoint, moveOutput}
+use Rattle.player.specs.Moves.{noFade, moveGlide, movePoint, moveOutput}
 use Rattle.player.specs.Sound.{Sound}
 use Rattle.player.specs.Inner.{controlAfter, firstPlan, secondPlan, steadyPlan, leftOf, rateAt, glideAt, controlAt}
-use Rattle.player.proofs.Kept.{moveGlide-sound, moveGlide-top, movePoint-sound}
+use Rattle.player.proofs.Kept.{moveGlide-sound, movePoint-sound}
 use Rattle.player.proofs.Glides.{control-fits, rate-at-high, control-next}
 use Rattle.player.proofs.Steady.{moveGlide-fade, moveGlide-position, asked-rate, steady-plan, steady-moved, advance-high, advance-low, advance-below}
 

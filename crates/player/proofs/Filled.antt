@@ -23,7 +23,7 @@ use Rattle.player.specs.Outputs.{output, nextVoice, voiceAfter, outputs}
 use Rattle.player.specs.Inner.{controlAfter, runPoints, lineOf}
 use Rattle.player.proofs.Kept.{moveGlide-sound, movePoint-sound, moveOutput-sound}
 use Rattle.player.proofs.Histories.{length-pushTwo}
-use Rattle.player.proofs.Blocks.{point-small, after-ready, after-within, length-outputs, at-outputs}
+use Rattle.player.proofs.Blocks.{point-small, after-ready, length-outputs, at-outputs}
 use Rattle.player.proofs.RunPoints.{control-after, history-after, length-run, run-all, run-drop, line-written}
 
 -- ---- what holds of every word

@@ -57,10 +57,6 @@ module _ (b : List ℤ) (a : Accepted b) where
   weighted-bound : (x : ℕ → ℤ) (X : ℕ) → ((k : ℕ) → natAbs (x k) ≤ X) → natAbs (sum (reads b) (λ k. weight b k *ℤ x k)) ≤ 32768 * X
   weighted-bound x X h = le-trans (sum-abs-* (reads b) (weight b) x X (λ k m. h k)) (mul-le-mul-right X weights-sum)
 
-  pub outputSum-bound : (h : List ℤ) (X : ℕ) → ((k : ℕ) → natAbs (at h k) ≤ X) → natAbs (outputSum b h) ≤ 32768 * X
-  unfolding outputSum
-  outputSum-bound h X bound = weighted-bound (at h) X bound
-
   -- of histories whose points are at most X apart
   pub outputSum-apart : (c d : ℤ) (h h′ : List ℤ) (X : ℕ) → ((k : ℕ) → natAbs (c *ℤ at h k -ℤ d *ℤ at h′ k) ≤ X)
       → natAbs (c *ℤ outputSum b h -ℤ d *ℤ outputSum b h′) ≤ 32768 * X

@@ -17,7 +17,6 @@ use Rattle.arith.proofs.Sum.{sum-ext, sum-split, sum-abs-same}
 use Rattle.book.specs.Book.{sizesOf}
 use Rattle.book.proofs.Accepted.{Accepted, sizes-bounded}
 use Rattle.player.specs.declared.biased.Place.{Place}
-use Rattle.player.specs.declared.biased.RowSums.{RowSums}
 use Rattle.player.specs.Inner.{rowSum, windowValue, Raised, RowOf, TableOf, RaisedOf, PlaceFits, SumsFit, placeOf, rowSums, impulsePart, differencePart, rowValue, biasedValue}
 use Rattle.player.proofs.RowSums.{sums-small}
 use Rattle.player.proofs.Split.{rowsFrom, book-words-small}

@@ -1,17 +1,14 @@
 -- The laws of points without a fade: the plan is the current level at P, and only P moves. Assumes nothing.
-use mathlib.Core.Path.{_≡_, refl, sym, ap, ap₂, _∙_}
+use mathlib.Core.Path.{_≡_, refl, sym}
 use mathlib.Core.Bool.{Bool, true, false, cond}
 use mathlib.Core.List.{List}
-use Prim.Native.Nat.{ℕ, suc, _+_, _^_, _≤_, _<_}
+use Prim.Native.Nat.{ℕ, _+_, _^_, _≤_, _<_}
 use native.Mathlib.Nat.{min-le-left, le-min}
-use native.Mathlib.Decide.{decLt}
 use native.Mathlib.Omega.{arith}
 use borrow.Author.Tests.{ltb-true, eq-eqb, ne-eqb}
 use lib.Dec.{eqb, ltb}
 use lib.IntN.{ℤ}
 use Rattle.player.specs.declared.Control.{Control}
-use Rattle.player.specs.declared.Fade.{Fade}
-use Rattle.player.specs.declared.Plan.{Plan}
 use Rattle.player.specs.Rate.{askedLevel, advance}
 use Rattle.player.specs.Points.{unit, storeLevel, levelValue, value, point}
 use Rattle.player.specs.Moves.{noFade, moveGlide, fadeTarget, pointPlan, fadeAfter, movePoint}

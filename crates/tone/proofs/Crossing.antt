@@ -1,18 +1,15 @@
 -- A voice that is written as words is read back as it was, if its fields fit their types. So a list of calls through the archive is that
 -- list of calls on voices. Assumes nothing.
-use mathlib.Core.Path.{_≡_, refl, ap, ap₂, _∙_}
+use mathlib.Core.Path.{_≡_, ap, ap₂, _∙_}
 use mathlib.Core.Bool.{cond}
-use mathlib.Core.List.{List, _++_}
-use Prim.Native.Nat.{ℕ, suc, _+_, _-_, _*_, _/_, _%_, _^_, _≤_, _<_}
+use Prim.Native.Nat.{ℕ, suc, _+_, _-_, _*_, _/_, _%_, _^_, _<_}
 use native.Mathlib.Decide.{decLe}
 use native.Mathlib.Omega.{arith}
 use borrow.Author.Tests.{lt-ltb, le-ltb}
-use lib.IntN.{ℤ, pos, negsuc, _-ℤ_}
-use lib.ListN.{length, take}
+use lib.IntN.{pos, negsuc, _-ℤ_}
+use lib.ListN.{length}
 use lib.Seq.{take-all}
-use Rattle.arith.specs.Lists.{at, part}
 use Rattle.arith.proofs.Linear.{linear}
-use Rattle.player.specs.declared.Control.{Control}
 use Rattle.player.specs.declared.Voice.{Voice}
 use Rattle.tone.specs.Words.{unsigned, signed, wide, lowWord, highWord, controlOf, voiceOf, controlWords, wordsOf}
 

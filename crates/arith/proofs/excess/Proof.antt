@@ -1,10 +1,8 @@
 -- `arith::excess` meets its contract: the remainder toward zero, and the divisor more where that is below 0. Assumes nothing.
-use mathlib.Core.Path.{_≡_}
-use lib.IntN.{pos, natAbs, _+ℤ_, _-ℤ_, _*ℤ_}
+use lib.IntN.{pos, _+ℤ_}
 use lib.Signed.{quotZ, remZ, _<ℤ_}
 use mir.Syntax.{w64}
 use mir.Val.{SFits}
-use Rattle.arith.specs.Floor.{floorDiv}
 use Rattle.arith.proofs.Bits.{reads}
 use Rattle.arith.proofs.Linear.{linear, signed, lt-yes, lt-no}
 use Rattle.arith.proofs.Floor.{bits-above-0, quot-fits, rem-fits, rest-above, rest-below}

@@ -1,6 +1,5 @@
 -- `player::glide::rate_at` meets its contract: the number between 2^23 × R and 2^23 × (R + 1) has floor R. Assumes nothing.
 use borrow.Author.Needs.{needs}
-use mathlib.Core.Path.{_≡_}
 use Prim.Native.Nat.{ℕ, _+_, _*_, _^_, _≤_, _<_}
 use native.Mathlib.Omega.{arith}
 use lib.Dec.{T}

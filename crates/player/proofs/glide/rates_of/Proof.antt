@@ -1,16 +1,15 @@
 -- `player::glide::rates_of` meets its contract: R as it is, or a glide's place and slope. Assumes nothing.
 use borrow.Author.Needs.{needs}
 use mathlib.Core.Path.{_≡_, sym, ap, subst, _∙_}
-use Prim.Native.Nat.{ℕ, _^_, _≤_, _<_}
+use Prim.Native.Nat.{_^_, _≤_, _<_}
 use native.Mathlib.Omega.{arith}
-use lib.IntN.{ℤ, pos, natAbs, _+ℤ_, _-ℤ_, _*ℤ_}
+use lib.IntN.{ℤ, pos, _+ℤ_, _-ℤ_, _*ℤ_}
 use mir.Syntax.{w64}
 use mir.Val.{SFits}
 use Rattle.arith.proofs.Bits.{reads}
 use Rattle.arith.proofs.Linear.{linear}
 use Rattle.arith.proofs.Integers.{abs-fits}
 use Rattle.player.specs.declared.Ramp.{Ramp}
-use Rattle.player.specs.declared.Control.{Control}
 use Rattle.player.specs.declared.glide.Quotient.{Quotient}
 use Rattle.player.specs.Moves.{glideRate}
 use Rattle.player.specs.Inner.{RampFits, RatesOf, quotient, glideSum}

@@ -1,5 +1,5 @@
 -- `player::outputs::fill` meets its contract: either call of `fill_by` does, with a book's table or with none. Assumes nothing.
-use mathlib.Core.Path.{_≡_, refl, ap}
+use mathlib.Core.Path.{refl, ap}
 use mathlib.Core.List.{List}
 use native.Mathlib.Omega.{arith}
 use borrow.Author.Needs.{needs}

@@ -2,14 +2,13 @@
 use borrow.Author.Needs.{needs}
 use mathlib.Core.Path.{_≡_, refl, sym, ap, ap₂, _∙_}
 use mathlib.Core.List.{List}
-use Prim.Native.Nat.{ℕ, suc, _+_, _-_, _*_, _^_, _≤_, _<_, min}
+use Prim.Native.Nat.{ℕ, _+_, _-_, _*_, _^_, _≤_, _<_, min}
 use native.Mathlib.Nat.{le-trans, le-of-eq, le-min, min-le-left, min-le-right}
 use native.Mathlib.Decide.{decLt}
 use native.Mathlib.Omega.{arith}
-use lib.IntN.{ℤ, pos, natAbs}
+use lib.IntN.{ℤ, natAbs}
 use lib.ListN.{length, drop, length-drop}
-use lib.Seq.{paste}
-use Rattle.arith.specs.Lists.{at, part, overwrite}
+use Rattle.arith.specs.Lists.{at, overwrite}
 use Rattle.arith.proofs.Lists.{at-outside, paste-none, paste-whole}
 use Rattle.book.specs.Book.{sizesOf}
 use Rattle.book.proofs.Bounds.{length-is}
@@ -19,7 +18,7 @@ use Rattle.player.specs.declared.Voice.{Voice}
 use Rattle.player.specs.Outputs.{voiceAfter, outputs}
 use Rattle.player.specs.Points.{point}
 use Rattle.player.specs.Inner.{controlAfter, runPoints, lineOf}
-use Rattle.player.proofs.Blocks.{after-ready, length-outputs}
+use Rattle.player.proofs.Blocks.{length-outputs}
 use Rattle.player.proofs.Filled.{Filled, length-line, line-every, line-long, filled-more, filled-length, filled-ready, run-small, end-history}
 use Rattle.player.proofs.outputs.fill_by.Statement.{statement}
 use Rattle.player.proofs.outputs.fill_by.Tie as tie

@@ -1,14 +1,14 @@
 -- `player::outputs::keep_newest` meets its contract. The loop's invariant: the last points are moved; what is read next lies before them.
 -- Assumes nothing.
-use mathlib.Core.Path.{_≡_, refl, sym, ap, _∙_}
+use mathlib.Core.Path.{_≡_, refl, ap, _∙_}
 use mathlib.Core.List.{List}
-use Prim.Native.Nat.{ℕ, suc, _+_, _-_, _≤_, _<_}
+use Prim.Native.Nat.{ℕ, suc, _+_, _-_, _≤_}
 use native.Mathlib.Omega.{arith}
 use lib.IntN.{ℤ, pos}
-use lib.ListN.{length, set, length-set}
+use lib.ListN.{length, length-set}
 use mir.Syntax.{w64}
 use mir.Val.{SFits}
-use Rattle.arith.specs.Lists.{at, part, tabulate, overwrite}
+use Rattle.arith.specs.Lists.{at, overwrite}
 use Rattle.arith.proofs.Bits.{reads}
 use Rattle.player.proofs.Filled.{tabulate-part}
 use Rattle.player.proofs.Newest.{newest, newest-none, newest-next, newest-before}

@@ -1,19 +1,17 @@
 -- `player::runs::one_output` meets its contract: the steps of one output, put together. Assumes nothing.
 use borrow.Author.Needs.{needs}
-use mathlib.Core.Path.{_≡_, refl, sym, ap, ap₂, _∙_}
+use mathlib.Core.Path.{_≡_, refl, ap, _∙_}
 use mathlib.Core.List.{List, [], _∷_}
 use Prim.Native.Nat.{ℕ, _+_, _^_, _≤_, _<_}
 use native.Mathlib.Omega.{arith}
 use lib.IntN.{ℤ, pos}
-use lib.ListN.{length, set, length-set}
-use lib.Seq.{paste}
+use lib.ListN.{length, set}
 use mir.Syntax.{w32}
 use mir.Val.{SFits}
 use mir.Facts.{sfits-widen}
 use Rattle.arith.specs.Lists.{overwrite}
 use Rattle.arith.proofs.Bits.{reads}
 use Rattle.arith.proofs.Lists.{paste-none, paste-more, paste-all}
-use Rattle.book.specs.Book.{sizesOf}
 use Rattle.book.proofs.Accepted.{accepted, sizes-bounded}
 use Rattle.levels.specs.Sizes.{levelStart}
 use Rattle.player.specs.declared.Control.{Control}

@@ -1,15 +1,14 @@
 -- `player::runs::steady_positions` meets its contract. The loop's invariant: `Along`, of the outputs so far. Assumes nothing.
 use borrow.Author.Needs.{needs}
 use mathlib.Core.Path.{_≡_, refl, sym, subst, _∙_}
-use Prim.Native.Nat.{ℕ, suc, _+_, _-_, _*_, _^_, _≤_, _<_}
+use Prim.Native.Nat.{ℕ, suc, _+_, _-_, _*_, _^_, _≤_}
 use native.Mathlib.Numerals.{add-one}
 use native.Mathlib.Omega.{arith}
 use lib.ListN.{length, length-set}
 use Rattle.arith.proofs.Integers.{≤ℤ-trans, pos-≤ℤ}
 use Rattle.player.specs.declared.Control.{Control}
 use Rattle.player.specs.declared.glide.Rates.{Rates}
-use Rattle.player.specs.Rate.{askedLevel}
-use Rattle.player.specs.Inner.{RampFits, RatesOf, leftOf, rateAt, controlAfter, controlAt}
+use Rattle.player.specs.Inner.{RatesOf, leftOf, rateAt, controlAfter, controlAt}
 use Rattle.player.proofs.Glides.{still-rate, control-fits, control-none}
 use Rattle.player.proofs.Along.{Along, along-none, run-high, along-run}
 use Rattle.player.proofs.runs.steady_positions.Statement.{statement}

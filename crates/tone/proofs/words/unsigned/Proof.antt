@@ -1,6 +1,6 @@
 -- `tone::words::unsigned` meets its contract: a word below 0 stands for itself and 2^32 more. Assumes nothing.
 use mathlib.Core.Path.{_≡_, refl}
-use Prim.Native.Nat.{_^_, _<_, _≤_}
+use Prim.Native.Nat.{_^_}
 use native.Mathlib.Omega.{arith}
 use lib.IntN.{ℤ, pos, negsuc, natAbs, _+ℤ_}
 use lib.Signed.{_<ℤ_, _≤ℤ_, yes-nonNeg, natAbs-le}
