@@ -1,20 +1,18 @@
 -- `player::runs::steady_run` meets its contract: the values at the run's positions are its points. Assumes nothing.
 use borrow.Author.Needs.{needs}
-use mathlib.Core.Path.{_≡_, refl, sym, ap, ap₂, _∙_}
+use mathlib.Core.Path.{_≡_, sym, ap, ap₂, _∙_}
 use mathlib.Core.List.{List}
-use Prim.Native.Nat.{ℕ, suc, _+_, _-_, _*_, _^_, _≤_, _<_}
-use native.Mathlib.Nat.{le-trans}
+use Prim.Native.Nat.{ℕ, suc, _+_, _-_, _*_, _≤_, _<_}
 use native.Mathlib.Omega.{arith}
 use lib.IntN.{ℤ}
 use lib.ListN.{length, getD, take, drop}
 use Rattle.arith.specs.Lists.{tabulate, overwrite}
 use Rattle.arith.proofs.Lists.{part-length, overwrite-none}
-use Rattle.book.specs.Book.{sizesOf}
 use Rattle.book.proofs.Accepted.{accepted, sizes-bounded}
 use Rattle.levels.specs.Sizes.{levelLength, levelStart}
 use Rattle.levels.proofs.Lengths.{levelStart-more, levelLength-≤}
 use Rattle.player.specs.declared.Control.{Control}
-use Rattle.player.specs.Points.{unit, storeLevel, levelValue, point}
+use Rattle.player.specs.Points.{storeLevel, levelValue, point}
 use Rattle.player.specs.Inner.{firstPlan, secondPlan, runPoints, steadyPlan}
 use Rattle.player.proofs.Blocks.{start-mono}
 use Rattle.player.proofs.RunPoints.{run-tabulate}
@@ -147,7 +145,7 @@ steady-points-requires c κs =
     let start = first-is p some in (
       (s .pre .0 .0, s .pre .0 .1, s .pre .0 .2),
       (
-        (level-high s, words-count s, omega (arith, some), omega (arith, e .0 .0, s .pre .1 .1 .0 .4), s .pre .1 .1 .0 .2, e .0 .2),
+        (level-high s, words-count s, omega (arith, some), omega (arith, e .0 .0, s .pre .1 .1 .0 .4), omega arith, s .pre .1 .1 .0 .2, e .0 .2),
         (λ k h. let b = e .1 .1 k h in (omega (arith, start, b .0), omega (arith, start, b .1), b .2), s .pre .1 .1 .1),
       ),
     )
