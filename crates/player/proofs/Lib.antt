@@ -20,3 +20,4 @@ pub mod Lines
 pub mod RowSums
 pub mod Newest
 pub mod Tables
+pub mod Totals

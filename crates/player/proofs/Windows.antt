@@ -1,17 +1,20 @@
--- A window of a level's words times a row of coefficients: the sum as the code adds it, term by term, from bits. Assumes nothing.
+-- A window of a level's words: those that limiting leaves as they are, and the sum of words times a row of coefficients as the code adds it, term by
+-- term, from bits. Assumes nothing.
 use mathlib.Core.Path.{_≡_, refl, sym, ap, ap₂, _∙_}
+use mathlib.Core.Bool.{true, false}
 use mathlib.Core.List.{List}
 use Prim.Native.Nat.{ℕ, _+_, _-_, _^_, _≤_, _<_}
 use native.Mathlib.Nat.{le-trans}
 use native.Mathlib.Omega.{arith}
 use lib.IntN.{ℤ, pos, negℤ, natAbs, _-ℤ_}
-use lib.ListN.{drop}
+use lib.ListN.{length, drop}
 use lib.Pow.{pow-mono}
 use mir.Syntax.{w32, w64}
 use mir.Val.{SFits, toZ, ofZ}
-use Rattle.arith.specs.Lists.{at, wordAt}
+use Rattle.arith.specs.Lists.{at, wordAt, part}
 use Rattle.arith.proofs.Bits.{reads}
 use Rattle.arith.proofs.Integers.{abs-fits}
+use Rattle.arith.proofs.Lists.{part-length, at-part}
 use Rattle.levels.proofs.Around.{before-inside}
 use Rattle.player.specs.Points.{limit, limitedWord}
 use Rattle.player.specs.Inner.{windowSum}
@@ -56,6 +59,25 @@ inside-word words l first half i h b =
     let e : first - half + i ≡ first + i - half = omega arith in
     let word : at words (first - half + i) ≡ wordAt words (pos (first + i) -ℤ pos half) = ap (at words) e ∙ sym (before-inside words (first + i) half (omega arith)) in
     sym (limit-inside (2 ^ (23 + l)) (at words (first - half + i)) b) ∙ ap (limit (negℤ (pos (2 ^ (23 + l)))) (pos (2 ^ (23 + l)))) word
+
+-- a test that failed says nothing
+pub nothing : {P : Type 0} → false ≡ true → P
+nothing e = let z : _≡_ {A = ℕ} 0 1 = cc in absurd (omega arith)
+
+-- n words from word `first` − `half` on that limiting leaves as they are, and the part of the level that they make
+abbrev pub AsTheyAre : List ℤ → ℕ → ℕ → ℕ → ℕ → Type 0
+AsTheyAre words l first half n =
+    (half ≤ first) × (first - half + n ≤ length words) × ((k : ℕ) → k < n → at words (first - half + k) ≡ windowWord words l first half k)
+
+module _ (words : List ℤ) (l first half n : ℕ) (are : AsTheyAre words l first half n) where
+  abbrev pub copied : List ℤ
+  copied = part words (first - half) (first - half + n - (first - half))
+
+  pub copied-length : length copied ≡ n
+  copied-length = omega (arith, part-length words (first - half) (first - half + n - (first - half)) (omega (arith, are .1)))
+
+  pub copied-word : (k : ℕ) → k < n → at copied k ≡ windowWord words l first half k
+  copied-word k h = at-part words (first - half) (first - half + n - (first - half)) k (omega arith) ∙ are .2 k h
 
 -- ---- a level's words times the coefficients
 

@@ -4,9 +4,9 @@ use mathlib.Core.List.{List, [], _∷_}
 use Prim.Native.Nat.{ℕ, zero, suc, _+_, _-_, _*_, _/_, _%_, _^_, _≤_, _<_, pred}
 use lib.Dec.{eqb}
 use lib.IntN.{ℤ, pos, natAbs, _-ℤ_, _*ℤ_, negsuc, _+ℤ_}
-use lib.ListN.{replicate, length, getD}
+use lib.ListN.{replicate, length}
 use lib.Signed.{_≤ℤ_, _<ℤ_}
-use Rattle.arith.specs.Lists.{at, overwrite, tabulate, wordAt}
+use Rattle.arith.specs.Lists.{at, overwrite, wordAt}
 use Rattle.arith.specs.Sum.{sum, sumAround}
 use Rattle.book.specs.Book.{sizesOf}
 use Rattle.player.specs.declared.Voice.{Voice}
@@ -35,10 +35,6 @@ rowSum words row n = sum n (λ i. at words i *ℤ at row (n - suc i))
 -- the value of a window, which is read as a level of its own, at `place`, counted in 2^-32 words from the first that the value reads
 unfoldable pub windowValue : List ℤ → List ℤ → ℕ → ℤ
 windowValue b window place = levelValue b window 4 (place + (sizesOf b .taps / 2 - 1) * 2 ^ 32)
-
--- a line of points with a window's values at n positions before place 128, the newest first
-unfoldable pub valuesOver : List ℤ → List ℤ → List ℕ → ℕ → ℕ → List ℤ → ℕ → List ℤ
-valuesOver b window positions start up line n = overwrite line (128 - n) (tabulate n (λ j. windowValue b window ((getD positions (n - suc j) 0 - start) * 2 ^ up)))
 
 -- 1 where 2^n does not divide `whole`, or 65536 does not divide `tail`, else 0
 unfoldable pub restOf : ℤ → ℕ → ℤ → ℤ

@@ -2,8 +2,8 @@
 // compiler takes two at once; what the raising adds is taken off the sums.
 
 ghost use mathlib.Core.Path.{_≡_};
-ghost use Prim.Native.Nat.{ℕ, suc, _+_, _-_, _*_, _^_, _≤_, _<_};
-ghost use lib.IntN.{pos, natAbs, _+ℤ_, _*ℤ_};
+ghost use Prim.Native.Nat.{ℕ, suc, _+_, _-_, _*_, _%_, _^_, _≤_, _<_};
+ghost use lib.IntN.{natAbs, _+ℤ_, _*ℤ_};
 ghost use lib.ListN.{length, getD};
 ghost use Rattle.arith.specs.Lists.{at, tabulate, overwrite};
 ghost use Rattle.player.specs.Inner.{Raised, PlaceFits, SumsFit, placeOf, rowSums, rowValue, biasedValue};
@@ -30,11 +30,12 @@ struct FourRowSums {
     d: RowSums,
 }
 
-// A place of a window, counted in 2^-32 words, taken apart.
-fn place_of(place: u64, phases: usize, taps: usize) -> Place
-    requires { ⌜ (phases ≤ 128) × (taps ≤ 24) ⌝ }
-    ensures { λ r. ⌜ r ≡ placeOf phases taps place ⌝ }
+// The place of position k, counted in 2^-32 words from `start` on, taken apart; `up` shifts a distance to them.
+fn place_of(positions: &[u64], k: usize, start: u64, up: u32, phases: usize, taps: usize) -> Place
+    requires { ⌜ (k < length (now positions)) × (start ≤ getD (now positions) k 0) × (up ≤ 4) × ((getD (now positions) k 0 - start) * 2 ^ up < 2 ^ 64) × (phases ≤ 128) × (taps ≤ 24) ⌝ }
+    ensures { λ r. ⌜ r ≡ placeOf phases taps ((getD (now (positions .entry)) k 0 - start) * 2 ^ up) ⌝ }
 {
+    let place = (positions[k] - start) << up;
     let scaled = place % 4294967296 * phases as u64;
     Place {
         row: (scaled / 4294967296) as usize * (taps + 1),
@@ -117,8 +118,8 @@ fn row_value(s: RowSums, table: &[i64], totals: &[i64], taps: usize, p: Place) -
     mixed(impulses, differences, p.offset, 32)
 }
 
-// The first values of a run, four at a time, written to a line of points, newest first; says how many: at most three are left. The window begins
-// at `start`, and `up` shifts a distance from there to 2^-32 words.
+// A run's values, an even number of them, four at a time, written to a line of points, newest first. The window begins at `start`, and `up` shifts
+// a distance from there to 2^-32 words.
 pub fn four_points(
     line: &mut [i64],
     positions: &[u64],
@@ -130,18 +131,18 @@ pub fn four_points(
     totals: &[i64],
     start: u64,
     up: u32,
-) -> usize
-    requires { ⌜ (length (now line) ≡ 209) × (count ≤ 128) × (up ≤ 4) × (length (now positions) ≡ 128) × (phases ≤ 128) × (taps ≤ 24) ⌝ }
+)
+    requires { ⌜ (length (now line) ≡ 209) × (count ≤ 128) × (count % 2 ≡ 0) × (up ≤ 4) × (length (now positions) ≡ 128) × (phases ≤ 128) × (taps ≤ 24) ⌝ }
     requires { ⌜ ((k : ℕ) → k < count → (start ≤ getD (now positions) k 0) × ((getD (now positions) k 0 - start) * 2 ^ up < suc k * 2 ^ 32)) ⌝ }
     requires { ⌜ ((k : ℕ) → k < count → PlaceFits (now table) (now window) taps (placeOf phases taps ((getD (now positions) k 0 - start) * 2 ^ up)) × SumsFit (now table) (now totals) taps (placeOf phases taps ((getD (now positions) k 0 - start) * 2 ^ up)) (rowSums (now table) (now window) taps (placeOf phases taps ((getD (now positions) k 0 - start) * 2 ^ up)))) ⌝ }
-    ensures { λ r. ⌜ (r ≤ count) × (now (line .exit) ≡ overwrite (now (line .entry)) (128 - r) (tabulate r (λ j. biasedValue (now (table .entry)) (now (window .entry)) (now (totals .entry)) phases taps ((getD (now (positions .entry)) (r - suc j) 0 - start) * 2 ^ up)))) ⌝ }
+    ensures { λ _. ⌜ now (line .exit) ≡ overwrite (now (line .entry)) (128 - count) (tabulate count (λ j. biasedValue (now (table .entry)) (now (window .entry)) (now (totals .entry)) phases taps ((getD (now (positions .entry)) (count - suc j) 0 - start) * 2 ^ up))) ⌝ }
 {
     let mut k = 0;
     while k + 4 <= count {
-        let p = place_of((positions[k] - start) << up, phases, taps);
-        let q = place_of((positions[k + 1] - start) << up, phases, taps);
-        let r = place_of((positions[k + 2] - start) << up, phases, taps);
-        let s = place_of((positions[k + 3] - start) << up, phases, taps);
+        let p = place_of(positions, k, start, up, phases, taps);
+        let q = place_of(positions, k + 1, start, up, phases, taps);
+        let r = place_of(positions, k + 2, start, up, phases, taps);
+        let s = place_of(positions, k + 3, start, up, phases, taps);
         let sums = four_row_sums(table, window, taps, p, q, r, s);
         line[127 - k] = row_value(sums.a, table, totals, taps, p);
         line[126 - k] = row_value(sums.b, table, totals, taps, q);
@@ -149,5 +150,11 @@ pub fn four_points(
         line[124 - k] = row_value(sums.d, table, totals, taps, s);
         k += 4;
     }
-    k
+    if k < count {
+        let p = place_of(positions, k, start, up, phases, taps);
+        let q = place_of(positions, k + 1, start, up, phases, taps);
+        let sums = four_row_sums(table, window, taps, p, q, q, q);
+        line[127 - k] = row_value(sums.a, table, totals, taps, p);
+        line[126 - k] = row_value(sums.b, table, totals, taps, q);
+    }
 }

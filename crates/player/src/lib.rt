@@ -10,7 +10,8 @@ mod points; // level values and points
 mod rate; // rates as f32
 mod refusals; // the numbers of the calls
 mod runs; // runs of outputs: positions and points
-mod table; // a book's phases and a window's words, raised
+mod staging; // the words that a run reads
+mod table; // a book's phases, raised
 mod window; // level values at a run of positions
 
 // The opening card: a rate, and the top level T.

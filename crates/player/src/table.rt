@@ -1,13 +1,13 @@
-// A book's phases and a window's words raised above 0: a table of coefficients, made once per call, and the window of a run.
+// A book's phases raised above 0: a table of coefficients, made once per call.
 
 ghost use mathlib.Core.Path.{_≡_};
-ghost use Prim.Native.Nat.{ℕ, _+_, _*_, _^_, _≤_, _<_};
+ghost use Prim.Native.Nat.{ℕ, _+_, _*_, _≤_, _<_};
 ghost use lib.IntN.{natAbs};
 ghost use lib.ListN.{length};
 ghost use Rattle.arith.specs.Lists.{at};
 ghost use Rattle.book.specs.Book.{sizesOf};
 ghost use Rattle.book.specs.Check.{bookNumber};
-ghost use Rattle.player.specs.Inner.{RowOf, TableOf, RaisedOf};
+ghost use Rattle.player.specs.Inner.{RowOf, TableOf};
 
 // Writes a phase's raised impulses from place `to` on, those of the next phase 832 places on, and behind either what the words' raising adds to
 // its sums. The phase's impulses begin at word `row` of the book, its differences `gap` words on.
@@ -44,21 +44,4 @@ pub fn stage_rows(table: &mut [i64], book: &[i32], phases: usize, taps: usize)
         stage_row(table, q * (taps + 1), book, 5 + q * taps, gap, taps);
         q += 1;
     }
-}
-
-// The first `count` words raised into the window, and the totals of those before each, times 2^17.
-pub fn raise_words(window: &mut [i64], totals: &mut [i64], words: &[i64], count: usize)
-    requires { ⌜ (count ≤ 159) × (length (now window) ≡ 160) × (length (now totals) ≡ 160) × (count ≤ length (now words)) × ((k : ℕ) → k < count → natAbs (at (now words) k) ≤ 2 ^ 27) ⌝ }
-    ensures { λ _. ⌜ (length (now (window .exit)) ≡ 160) × (length (now (totals .exit)) ≡ 160) × RaisedOf (now (words .entry)) count (now (window .exit)) (now (totals .exit)) ⌝ }
-{
-    let mut total: i64 = 0;
-    let mut k = 0;
-    while k < count {
-        let w = words[k] + 134217728;
-        window[k] = w;
-        totals[k] = total;
-        total += 131072 * w;
-        k += 1;
-    }
-    totals[count] = total;
 }

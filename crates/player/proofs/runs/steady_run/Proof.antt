@@ -145,7 +145,7 @@ steady-points-requires c κs =
     let start = first-is p some in (
       (s .pre .0 .0, s .pre .0 .1, s .pre .0 .2),
       (
-        (level-high s, words-count s, omega (arith, some), omega (arith, e .0 .0, s .pre .1 .1 .0 .4), s .pre .1 .1 .0 .2, e .0 .2),
+        (level-high s, words-count s, omega (arith, some), omega (arith, e .0 .0, s .pre .1 .1 .0 .4), omega arith, s .pre .1 .1 .0 .2, e .0 .2),
         (λ k h. let b = e .1 .1 k h in (omega (arith, start, b .0), omega (arith, start, b .1), b .2), s .pre .1 .1 .1),
       ),
     )

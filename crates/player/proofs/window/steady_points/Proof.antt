@@ -6,18 +6,17 @@ use Prim.Native.Nat.{ℕ, suc, _+_, _*_, _-_, _/_, _%_, _^_, _≤_, _<_}
 use native.Mathlib.Nat.{mod-lt, div-add-mod', mod-eq-of-lt, div-lt-iff-lt-mul}
 use native.Mathlib.Omega.{arith}
 use borrow.Author.Needs.{needs}
-use lib.IntN.{ℤ, natAbs}
+use lib.IntN.{ℤ, pos, natAbs}
 use lib.ListN.{length, getD}
 use lib.Pow.{pow-mono, pow-pos}
 use Rattle.arith.specs.Lists.{at, tabulate, overwrite}
-use Rattle.arith.proofs.Lists.{tabulate-ext}
+use Rattle.arith.proofs.Lists.{tabulate-ext, getD-tabulate}
 use Rattle.book.specs.Book.{sizesOf}
 use Rattle.book.proofs.Accepted.{Accepted, accepted, sizes-bounded}
 use Rattle.player.specs.Points.{unit, levelValue}
-use Rattle.player.specs.Inner.{TableOf, PlaceFits, SumsFit, RaisedOf, placeOf, rowSums, windowValue, biasedValue, valuesOver}
+use Rattle.player.specs.Inner.{TableOf, PlaceFits, SumsFit, RaisedOf, placeOf, rowSums, windowValue, biasedValue}
 use Rattle.player.proofs.Values.{unit-pos}
 use Rattle.player.proofs.Windows.{windowWord, word-bound}
-use Rattle.player.proofs.Newest.{newest-none}
 use Rattle.player.proofs.Raised.{biasedValue-is, place-fits, sums-fit}
 use Rattle.player.proofs.Staged.{distance-below, windowValue-is}
 use Rattle.player.proofs.window.steady_points.Statement.{statement}
@@ -88,106 +87,103 @@ module _ (s : tie.Start) where
   reached : (k : ℕ) → k < count → positionAt k / unit level < base + suc k
   reached k h = div-lt-iff-lt-mul (unit-pos level) .1 (ahead k h)
 
--- ---- the window's words and values
-
-module _ (c : tie.After-staged) where
-  abbrev s : tie.Start
-  s = c .before .before .before .before
-
-  abbrev window : List ℤ
-  window = c .staged .last .0
+  -- ---- the window's words and values
 
   -- as the code computes it
   abbrev start : ℕ
-  start = base s * 2 ^ (28 + level s) % 2 ^ 64
+  start = base * 2 ^ (28 + level) % 2 ^ 64
 
   abbrev reach : ℕ
-  reach = count s - 1 + taps s
+  reach = count - 1 + taps
+
+  reach-high : reach ≤ 151
+  reach-high = omega (arith, few)
 
   abbrev placeAt : ℕ → ℕ
-  placeAt k = (positionAt s k - start) * 2 ^ (4 - level s)
+  placeAt k = (positionAt k - start) * 2 ^ (4 - level)
 
-  word-is : (k : ℕ) → k < reach → at window k ≡ windowWord (words s) (level s) (base s + 1) (taps s / 2) k
-  word-is = c .staged .ensures
-
-  word-small : (k : ℕ) → k < reach → natAbs (at window k) ≤ 2 ^ 27
-  word-small k h = rw (word-is k h) (word-bound (words s) (level s) (base s + 1) (taps s / 2) (low s) k)
+  abbrev word : ℕ → ℤ
+  word = windowWord words level (base + 1) (taps / 2)
 
   -- position k lies in the window
-  apart : (k : ℕ) → k < count s → (start ≤ positionAt s k) × (placeAt k < suc k * 2 ^ 32)
-  apart k h =
-      rw (start-is s) (behind s k h, distance-below (book s) (words s) window (level s) (low s) (base s) (positionAt s k) (behind s k h) k (ahead s k h))
+  apart : (k : ℕ) → k < count → (start ≤ positionAt k) × (placeAt k < suc k * 2 ^ 32)
+  apart k h = rw start-is (behind k h, distance-below book words words level low base (positionAt k) (behind k h) k (ahead k h))
 
-  inside : (k : ℕ) → k < count s → placeAt k / 2 ^ 32 + taps s ≤ reach
-  inside k h = let below : placeAt k / 2 ^ 32 < suc k = div-lt-iff-lt-mul (pow-pos 32) .1 (apart k h .1) in omega arith
+  -- a window with these words
+  module _ (window : List ℤ) (word-is : (k : ℕ) → k < reach → at window k ≡ word k) where
+    word-small : (k : ℕ) → k < reach → natAbs (at window k) ≤ 2 ^ 27
+    word-small k h = rw (word-is k h) (word-bound words level (base + 1) (taps / 2) low k)
 
-  -- the value there
-  value-is : (k : ℕ) → k < count s → windowValue (book s) window (placeAt k) ≡ levelValue (book s) (words s) (level s) (positionAt s k)
-  value-is k h =
-      ap (λ n. windowValue (book s) window ((positionAt s k - n) * 2 ^ (4 - level s))) (start-is s)
-      ∙ windowValue-is (book s) (words s) window (level s) (low s) (base s) (positionAt s k) (behind s k h) (sound s)
-      (λ i l. word-is i (omega (arith, reached s k h, taps-are s)) ∙ ap (λ n. windowWord (words s) (level s) (base s + 1) (n / 2) i) (taps-are s))
+    value-is : (k : ℕ) → k < count → windowValue book window (placeAt k) ≡ levelValue book words level (positionAt k)
+    value-is k h =
+        ap (λ n. windowValue book window ((positionAt k - n) * 2 ^ (4 - level))) start-is
+        ∙ windowValue-is book words window level low base (positionAt k) (behind k h) sound
+        (λ i l. word-is i (omega (arith, reached k h, taps-are)) ∙ ap (λ n. windowWord words level (base + 1) (n / 2) i) taps-are)
 
-  abbrev line : List ℤ
-  line = s .args .line .now
-
-  abbrev over : ℕ → List ℤ
-  over = valuesOver (book s) window (s .args .positions .now) start (4 - level s) line
-
-  over-none : line ≡ over 0
-  unfolding valuesOver
-  over-none = newest-none line 128 (λ k. windowValue (book s) window (placeAt k))
-
-  over-all : over (count s) ≡ overwrite line (128 - count s) (tabulate (count s) (λ j. levelValue (book s) (words s) (level s) (positionAt s (count s - suc j))))
-  unfolding valuesOver
-  over-all = ap (overwrite line (128 - count s)) (tabulate-ext (count s) (λ j h. value-is (count s - suc j) (omega arith)))
+  -- a line with the values of a rule that makes them
+  all-values : (f : ℕ → ℤ) → ((k : ℕ) → k < count → f k ≡ levelValue book words level (positionAt k))
+      → overwrite (s .args .line .now) (128 - count) (tabulate count (λ j. f (count - suc j)))
+      ≡ overwrite (s .args .line .now) (128 - count) (tabulate count (λ j. levelValue book words level (positionAt (count - suc j))))
+  all-values f is = ap (overwrite (s .args .line .now) (128 - count)) (tabulate-ext count (λ j h. is (count - suc j) (omega arith)))
 
 -- ---- the values from a table
 
-module _ (c : tie.After-raise-words) where
-  abbrev w : tie.After-staged
-  w = c .before .before .before .before .before .before
+module _ (c : tie.After-staged-raised) where
+  abbrev from : tie.Start
+  from = c .before .before .before .before .before .before
 
   abbrev table : List ℤ
-  table = s w .args .table .now
+  table = from .args .table .now
 
   abbrev raised : List ℤ
-  raised = c .raise-words .last .0
+  raised = c .staged-raised .last .0
 
   abbrev totals : List ℤ
-  totals = c .raise-words .last .1 .0
+  totals = c .staged-raised .last .1 .0
 
-  table-of : TableOf (book (s w)) table
-  table-of = s w .pre .1 .1 .1 (c .before .before .before .before .if1 .left)
+  -- the words that are raised
+  abbrev window : List ℤ
+  window = tabulate (reach from) (word from)
 
-  raised-of : RaisedOf (window w) (reach w) raised totals
-  raised-of = c .raise-words .ensures .2
+  window-is : (k : ℕ) → k < reach from → at window k ≡ word from k
+  window-is k h = getD-tabulate (reach from) (word from) k (pos 0) h
 
-  module _ (k : ℕ) (h : k < count (s w)) where
-    in-reach : placeAt w k / 2 ^ 32 + sizesOf (book (s w)) .taps ≤ reach w
-    in-reach = omega (arith, inside w k h, taps-are (s w))
+  table-of : TableOf (book from) table
+  table-of = from .pre .1 .1 .1 (c .before .before .before .if1 .left)
 
+  raised-of : RaisedOf window (reach from) raised totals
+  raised-of = c .staged-raised .ensures .2
+
+  long : reach from ≤ length raised
+  long = omega (arith, reach-high from, c .staged-raised .ensures .0)
+
+  module _ (k : ℕ) (h : k < count from) where
     abbrev place : ℕ
-    place = placeAt w k
+    place = placeAt from k
+
+    in-reach : place / 2 ^ 32 + sizesOf (book from) .taps ≤ reach from
+    in-reach =
+        let below : place / 2 ^ 32 < suc k = div-lt-iff-lt-mul (pow-pos 32) .1 (apart from k h .1) in
+        omega (arith, below, h, taps-are from)
 
     abbrev Fits : ℕ → ℕ → Type 0
     Fits M N = PlaceFits table raised N (placeOf M N place) × SumsFit table totals N (placeOf M N place) (rowSums table raised N (placeOf M N place))
 
-    book-fits : Fits (sizesOf (book (s w)) .phases) (sizesOf (book (s w)) .taps)
+    book-fits : Fits (sizesOf (book from) .phases) (sizesOf (book from) .taps)
     book-fits =
-        let b = book (s w) in
-        let long : reach w ≤ length raised = omega (arith, few (s w), c .raise-words .ensures .0) in (
-          place-fits b table (window w) (reach w) raised totals (sound (s w)) table-of raised-of (word-small w) place in-reach long,
-          sums-fit b table (window w) (reach w) raised totals (sound (s w)) table-of raised-of (word-small w) place in-reach long (omega (arith, few (s w))) (c .raise-words .ensures .1),
+        let small = word-small from window window-is in (
+          place-fits (book from) table window (reach from) raised totals (sound from) table-of raised-of small place in-reach long,
+          sums-fit (book from) table window (reach from) raised totals (sound from) table-of raised-of small place in-reach long (omega (arith, reach-high from)) (c .staged-raised .ensures .1),
         )
 
-    fits : Fits (s w .args .phases) (taps (s w))
-    fits = subst (λ M. Fits M (taps (s w))) (sym (phases-are (s w))) (subst (Fits (sizesOf (book (s w)) .phases)) (sym (taps-are (s w))) book-fits)
+    fits : Fits (from .args .phases) (taps from)
+    fits = subst (λ M. Fits M (taps from)) (sym (phases-are from)) (subst (Fits (sizesOf (book from) .phases)) (sym (taps-are from)) book-fits)
 
-    same-value : biasedValue table raised totals (s w .args .phases) (taps (s w)) place ≡ windowValue (book (s w)) (window w) place
+    same-value : biasedValue table raised totals (from .args .phases) (taps from) place ≡ levelValue (book from) (words from) (level from) (positionAt from k)
     same-value =
-        ap₂ (λ M N. biasedValue table raised totals M N place) (phases-are (s w)) (taps-are (s w))
-        ∙ biasedValue-is (book (s w)) table (window w) (reach w) raised totals (sound (s w)) table-of raised-of (word-small w) place in-reach
+        ap₂ (λ M N. biasedValue table raised totals M N place) (phases-are from) (taps-are from)
+        ∙ biasedValue-is (book from) table window (reach from) raised totals (sound from) table-of raised-of (word-small from window window-is) place in-reach
+        ∙ value-is from window window-is k h
 
 add-shift : tie.Need-add-shift
 add-shift c = search needs
@@ -210,31 +206,32 @@ cast-start c = search needs
 shl-start : tie.Need-shl-start
 shl-start c = search needs
 
+add-first : tie.Need-add-first
+add-first c = omega (arith, first-high (c .before .before))
+
 sub-reach : tie.Need-sub-reach
 sub-reach c = search needs
 
 add-reach : tie.Need-add-reach
 add-reach c = omega (arith, few (c .before .before))
 
+-- ---- without a table
+
 slice-aggregate-staged : tie.Need-slice-aggregate-staged
 slice-aggregate-staged c = search needs
 
-add-staged : tie.Need-add-staged
-add-staged c = omega (arith, first-high (c .before .before .before))
-
 staged-requires : tie.Need-staged-requires
-staged-requires c κs = let s = c .before .before .before in (low s, first-high s, omega (arith, few s))
-
--- ---- without a table
+staged-requires c κs = let s = c .before .before .before .before in (low s, first-high s, omega (arith, reach-high s))
 
 slice-aggregate-window-points : tie.Need-slice-aggregate-window-points
 slice-aggregate-window-points c = search needs
 
 window-points-requires : tie.Need-window-points-requires
 window-points-requires c κs =
-    let w = c .before .before .before .before in
-    let a = s w in
-    (a .pre .0, ((a .pre .1 .0 .4, omega arith, omega arith, omega (arith, few a), omega arith, a .pre .1 .0 .5), (apart w, word-small w)))
+    let w = c .before .before .before in
+    let s = w .before .before .before .before .before in
+    let p = s .pre .1 .0 in
+    (s .pre .0, ((p .5, p .3, omega (arith, reach-high s), omega arith, p .6), (apart s, word-small s (w .staged .last .0) (w .staged .ensures))))
 
 same-length : tie.Need-same-length
 same-length c = search needs
@@ -242,24 +239,23 @@ same-length c = search needs
 returns : tie.Need-returns
 returns c =
     let r = c .before in
-    let w = r .before .before .before .before .before in
-    r .window-points .ensures (line w) (s w .pre .1 .0 .4) (over-none w) ∙ over-all w
+    let w = r .before .before .before .before in
+    let s = w .before .before .before .before .before in
+    let window = w .staged .last .0 in
+    r .window-points .ensures ∙ all-values s (λ k. windowValue (book s) window (placeAt s k)) (value-is s window (w .staged .ensures))
 
 -- ---- with one
 
-slice-aggregate-raise-words : tie.Need-slice-aggregate-raise-words
-slice-aggregate-raise-words c = search needs
+slice-aggregate-staged-raised : tie.Need-slice-aggregate-staged-raised
+slice-aggregate-staged-raised c = search needs
 
-slice-aggregate-raise-words-2 : tie.Need-slice-aggregate-raise-words-2
-slice-aggregate-raise-words-2 c = search needs
+slice-aggregate-staged-raised-2 : tie.Need-slice-aggregate-staged-raised-2
+slice-aggregate-staged-raised-2 c = search needs
 
-slice-aggregate-raise-words-3 : tie.Need-slice-aggregate-raise-words-3
-slice-aggregate-raise-words-3 c = search needs
-
-raise-words-requires : tie.Need-raise-words-requires
-raise-words-requires c κs =
-    let w = c .before .before .before .before .before in
-    (omega (arith, few (s w)), omega arith, omega arith, omega (arith, few (s w)), word-small w)
+staged-raised-requires : tie.Need-staged-raised-requires
+staged-raised-requires c κs =
+    let s = c .before .before .before .before .before in
+    (low s, first-high s, omega (arith, reach-high s), omega arith, omega arith)
 
 slice-aggregate-four-points : tie.Need-slice-aggregate-four-points
 slice-aggregate-four-points c = search needs
@@ -269,34 +265,21 @@ slice-aggregate-four-points-2 c = search needs
 
 four-points-requires : tie.Need-four-points-requires
 four-points-requires c κs =
-    let r = c .before .before .before .before .before in
-    let a = s (w r) in
-    ((a .pre .1 .0 .4, omega arith, omega arith, a .pre .1 .0 .5, omega (arith, phases-are a, sizes-bounded (book a) (sound a) .phases-high), few a), (apart (w r), fits r))
-
-slice-aggregate-window-points-2 : tie.Need-slice-aggregate-window-points-2
-slice-aggregate-window-points-2 c = search needs
-
-window-points-requires-2 : tie.Need-window-points-requires-2
-window-points-requires-2 c κs =
-    let f = c .before .before .before in
-    let v = w (f .before .before .before .before .before .before) in
-    let a = s v in
-    (a .pre .0, ((omega arith, f .four-points .ensures .0, omega arith, omega (arith, few a), omega arith, a .pre .1 .0 .5), (apart v, word-small v)))
+    let w = c .before .before .before .before .before in
+    let s = from w in
+    let p = s .pre .1 .0 in
+    let few-phases : s .args .phases ≤ 128 = omega (arith, phases-are s, sizes-bounded (book s) (sound s) .phases-high) in
+    ((p .5, p .3, p .4, omega arith, p .6, few-phases, few s), (apart s, fits w))
 
 same-length-2 : tie.Need-same-length-2
 same-length-2 c = search needs
 
 returns-2 : tie.Need-returns-2
-unfolding valuesOver
 returns-2 c =
-    let p = c .before in
-    let f = p .before .before .before .before in
-    let r = f .before .before .before .before .before .before in
-    let v = w r in
-    let made = f .four-points .result in
-    let so-far : tabulate made (λ j. biasedValue (table r) (raised r) (totals r) (s v .args .phases) (taps (s v)) (placeAt v (made - suc j))) ≡ tabulate made (λ j. windowValue (book (s v)) (window v) (placeAt v (made - suc j))) =
-    tabulate-ext made (λ j h. same-value r (made - suc j) (omega (arith, f .four-points .ensures .0))) in
-    p .window-points2 .ensures (line v) (s v .pre .1 .0 .4) (f .four-points .ensures .1 ∙ ap (overwrite (line v) (128 - made)) so-far) ∙ over-all v
+    let r = c .before in
+    let w = r .before .before .before .before .before .before in
+    let s = from w in
+    r .four-points .ensures ∙ all-values s (λ k. biasedValue (table w) (raised w) (totals w) (s .args .phases) (taps s) (placeAt s k)) (same-value w)
 
 pub steady-points-spec : {M : Type 1} → statement M
 steady-points-spec =
@@ -309,23 +292,20 @@ steady-points-spec =
     shr-base
     cast-start
     shl-start
+    add-first
     sub-reach
     add-reach
     slice-aggregate-staged
-    add-staged
     staged-requires
     slice-aggregate-window-points
     window-points-requires
     same-length
     returns
-    slice-aggregate-raise-words
-    slice-aggregate-raise-words-2
-    slice-aggregate-raise-words-3
-    raise-words-requires
+    slice-aggregate-staged-raised
+    slice-aggregate-staged-raised-2
+    staged-raised-requires
     slice-aggregate-four-points
     slice-aggregate-four-points-2
     four-points-requires
-    slice-aggregate-window-points-2
-    window-points-requires-2
     same-length-2
     returns-2)

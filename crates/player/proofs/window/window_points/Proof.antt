@@ -1,5 +1,5 @@
--- `player::window::window_points` meets its contract. The loop's invariant: whatever line had the values of the first `made` positions now has those
--- of the positions passed, the newest in front. Assumes nothing.
+-- `player::window::window_points` meets its contract. The loop's invariant: the values of the positions passed are written, the newest in front.
+-- Assumes nothing.
 use mathlib.Core.Path.{_≡_, refl, ap, _∙_}
 use mathlib.Core.List.{List}
 use Prim.Native.Nat.{ℕ, suc, _+_, _*_, _-_, _%_, _^_, _≤_, _<_}
@@ -10,18 +10,21 @@ use lib.ListN.{length, getD, set, length-set}
 use mir.Syntax.{w64}
 use mir.Val.{SFits}
 use Rattle.arith.proofs.Bits.{reads}
-use Rattle.player.specs.Inner.{windowValue, valuesOver}
-use Rattle.player.proofs.Newest.{newest-next}
+use Rattle.player.specs.Inner.{windowValue}
+use Rattle.player.proofs.Newest.{newest, newest-none, newest-next}
 use Rattle.player.proofs.window.window_points.Statement.{statement}
 use Rattle.player.proofs.window.window_points.Tie as tie
 
+-- the value at position i
+abbrev valueAt : List ℤ → List ℤ → List ℕ → ℕ → ℕ → ℕ → ℤ
+valueAt book window positions start up i = windowValue book window ((getD positions i 0 - start) * 2 ^ up)
+
 abbrev Inv-loop : tie.InvT-loop
-Inv-loop line₀ positions made count book phases taps window start up k₀ line k =
-    (k ≤ count) × (length line ≡ length line₀)
-    × ((before : List ℤ) → length before ≡ 209 → line₀ ≡ valuesOver book window positions start up before made → line ≡ valuesOver book window positions start up before k)
+Inv-loop line₀ positions count book phases taps window start up k₀ line k =
+    (k ≤ count) × (length line ≡ length line₀) × (line ≡ newest line₀ 128 (valueAt book window positions start up) k)
 
 abbrev μ-loop : tie.MeasureT-loop
-μ-loop line₀ positions made count book phases taps window start up k₀ line k = count - k
+μ-loop line₀ positions count book phases taps window start up k₀ line k = count - k
 
 -- ---- in a turn
 
@@ -42,18 +45,16 @@ module _ (c : tie.In-loop Inv-loop μ-loop) where
   shifted = mod-eq-of-lt (omega (arith, ahead))
 
   abbrev values : ℕ → ℤ
-  values i = windowValue (s .args .book .now) (s .args .window .now) ((getD (s .args .positions .now) i 0 - s .args .start) * 2 ^ s .args .up)
-
-  abbrev over : List ℤ → ℕ → List ℤ
-  over = valuesOver (s .args .book .now) (s .args .window .now) (s .args .positions .now) (s .args .start) (s .args .up)
+  values = valueAt (s .args .book .now) (s .args .window .now) (s .args .positions .now) (s .args .start) (s .args .up)
 
   -- one value more in front
-  written : {x : ℤ} → x ≡ values k → (before : List ℤ) → length before ≡ 209 → s .args .line .now ≡ over before (s .args .made) → set (c .before .loop .line) (127 - k) x ≡ over before (k + 1)
-  unfolding valuesOver
-  written {x} e before l h = newest-next before 128 values k x (omega arith) (omega arith) e refl (omega arith) (c .before .loop .inv .2 before l h)
+  written : {x : ℤ} → x ≡ values k → set (c .before .loop .line) (127 - k) x ≡ newest (s .args .line .now) 128 values (k + 1)
+  written {x} e = newest-next (s .args .line .now) 128 values k x (omega arith) (omega arith) e refl (omega arith) (c .before .loop .inv .2)
 
 loop-holds : tie.Need-loop-holds Inv-loop μ-loop
-loop-holds c = (c .before .pre .1 .0 .1, refl, λ before l h. h)
+loop-holds c =
+    let a = c .before .args in
+    (omega arith, refl, newest-none (a .line .now) 128 (valueAt (a .book .now) (a .window .now) (a .positions .now) (a .start) (a .up)))
 
 mul-window-value : tie.Need-mul-window-value Inv-loop μ-loop
 mul-window-value c = omega arith
@@ -104,7 +105,7 @@ returns : tie.Need-returns Inv-loop μ-loop
 returns c =
     let a = c .before .before .before .args in
     let e : c .before .loop .k ≡ a .count = omega arith in
-    λ before l h. c .before .loop .inv .2 before l h ∙ ap (valuesOver (a .book .now) (a .window .now) (a .positions .now) (a .start) (a .up) before) e
+    c .before .loop .inv .2 ∙ ap (newest (a .line .now) 128 (valueAt (a .book .now) (a .window .now) (a .positions .now) (a .start) (a .up))) e
 
 pub window-points-spec : {M : Type 1} → statement M
 window-points-spec =

@@ -1,4 +1,4 @@
--- `player::window::widened` meets its contract. The loop's invariant: the words passed are written. Assumes nothing.
+-- `player::staging::widened` meets its contract. The loop's invariant: the words passed are written. Assumes nothing.
 use mathlib.Core.Path.{_≡_, refl}
 use Prim.Native.Nat.{ℕ, _-_, _≤_, _<_}
 use native.Mathlib.Omega.{arith}
@@ -10,8 +10,8 @@ use mir.Facts.{sfits-widen}
 use Rattle.arith.specs.Lists.{at}
 use Rattle.arith.proofs.Bits.{reads}
 use Rattle.arith.proofs.Lists.{filled-more}
-use Rattle.player.proofs.window.widened.Statement.{statement}
-use Rattle.player.proofs.window.widened.Tie as tie
+use Rattle.player.proofs.staging.widened.Statement.{statement}
+use Rattle.player.proofs.staging.widened.Tie as tie
 
 abbrev Inv-loop : tie.InvT-loop
 Inv-loop window₀ words k₀ window k = (k ≤ length words) × (length window ≡ length window₀) × ((j : ℕ) → j < k → at window j ≡ at words j)

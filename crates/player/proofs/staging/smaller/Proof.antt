@@ -1,10 +1,10 @@
--- `player::window::smaller` meets its contract by its test. Assumes nothing.
+-- `player::staging::smaller` meets its contract by its test. Assumes nothing.
 use lib.Signed.{≤ℤ-refl}
 use Rattle.arith.proofs.Bits.{reads}
 use Rattle.arith.proofs.Integers.{<ℤ-≤ℤ}
 use Rattle.arith.proofs.Linear.{lt-yes, lt-no}
-use Rattle.player.proofs.window.smaller.Statement.{statement}
-use Rattle.player.proofs.window.smaller.Tie as tie
+use Rattle.player.proofs.staging.smaller.Statement.{statement}
+use Rattle.player.proofs.staging.smaller.Tie as tie
 
 returns : tie.Need-returns
 returns c =

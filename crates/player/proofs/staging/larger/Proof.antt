@@ -1,10 +1,10 @@
--- `player::window::larger` meets its contract by its test. Assumes nothing.
+-- `player::staging::larger` meets its contract by its test. Assumes nothing.
 use lib.Signed.{≤ℤ-refl}
 use Rattle.arith.proofs.Bits.{reads}
 use Rattle.arith.proofs.Integers.{<ℤ-≤ℤ}
 use Rattle.arith.proofs.Linear.{lt-yes, lt-no}
-use Rattle.player.proofs.window.larger.Statement.{statement}
-use Rattle.player.proofs.window.larger.Tie as tie
+use Rattle.player.proofs.staging.larger.Statement.{statement}
+use Rattle.player.proofs.staging.larger.Tie as tie
 
 returns : tie.Need-returns
 returns c =

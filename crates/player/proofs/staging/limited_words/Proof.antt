@@ -1,4 +1,4 @@
--- `player::window::limited_words` meets its contract. The loop's invariant: the words passed are written. Assumes nothing.
+-- `player::staging::limited_words` meets its contract. The loop's invariant: the words passed are written. Assumes nothing.
 use mathlib.Core.Path.{_≡_, refl}
 use Prim.Native.Nat.{ℕ, _+_, _-_, _≤_, _<_}
 use native.Mathlib.Omega.{arith}
@@ -10,8 +10,8 @@ use Rattle.arith.specs.Lists.{at}
 use Rattle.arith.proofs.Bits.{reads}
 use Rattle.arith.proofs.Lists.{filled-more}
 use Rattle.player.proofs.Windows.{bound-small, limited-is, windowWord}
-use Rattle.player.proofs.window.limited_words.Statement.{statement}
-use Rattle.player.proofs.window.limited_words.Tie as tie
+use Rattle.player.proofs.staging.limited_words.Statement.{statement}
+use Rattle.player.proofs.staging.limited_words.Tie as tie
 
 abbrev Inv-loop : tie.InvT-loop
 Inv-loop window₀ words level first half count bound k₀ window k =

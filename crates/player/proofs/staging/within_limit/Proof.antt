@@ -1,6 +1,5 @@
--- `player::window::within_limit` meets its contract. The loop's invariant: every word passed lies between `low` and `high`. Assumes nothing.
+-- `player::staging::within_limit` meets its contract. The loop's invariant: every word passed lies between `low` and `high`. Assumes nothing.
 use mathlib.Core.Path.{_≡_}
-use mathlib.Core.Bool.{true, false}
 use mathlib.Core.List.{List}
 use Prim.Native.Nat.{ℕ, _+_, _-_, _≤_, _<_}
 use native.Mathlib.Omega.{arith}
@@ -14,8 +13,9 @@ use Rattle.arith.specs.Lists.{at}
 use Rattle.arith.proofs.Bits.{reads}
 use Rattle.arith.proofs.Integers.{≤ℤ-trans, abs-≤, abs-fits}
 use Rattle.arith.proofs.Linear.{lt-no, abs-neg}
-use Rattle.player.proofs.window.within_limit.Statement.{statement}
-use Rattle.player.proofs.window.within_limit.Tie as tie
+use Rattle.player.proofs.Windows.{nothing}
+use Rattle.player.proofs.staging.within_limit.Statement.{statement}
+use Rattle.player.proofs.staging.within_limit.Tie as tie
 
 abbrev Inv-loop : tie.InvT-loop
 Inv-loop words bound high₀ low₀ k₀ high low k = (k ≤ length words) × ((j : ℕ) → j < k → (at words j ≤ℤ toZ w32 high) × (toZ w32 low ≤ℤ at words j))
@@ -87,10 +87,6 @@ loop-again c = (omega arith, simp (reads, high-fits c, low-fits c) (between c))
 
 negated-fits : (s : tie.Start Inv-loop μ-loop) → SFits w32 (negℤ (s .args .bound))
 negated-fits s = abs-fits w32 (negℤ (s .args .bound)) (rw abs-neg (omega arith))
-
--- a test that failed says nothing
-nothing : {P : Type 0} → false ≡ true → P
-nothing e = let z : _≡_ {A = ℕ} 0 1 = cc in absurd (omega arith)
 
 returns : tie.Need-returns Inv-loop μ-loop
 returns c e = nothing e
