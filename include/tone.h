@@ -31,6 +31,8 @@
  * record, 95 words of 0.
  *
  * No call allocates, prints, waits, keeps a pointer or has a state of its own.
+ * On x86-64 tone_play takes some 21 KB of stack, every other call less than 2 KB
+ * (measured, not proved).
  * Calls may run at the same time where none writes what another reads or
  * writes: many voices can play from one book and one store.
  *

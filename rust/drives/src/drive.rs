@@ -62,7 +62,9 @@ pub fn run_drive(seed: u64, index: u64, sides: &mut Sides) -> Result<(), Mismatc
         2 => every_word_damaged(&mut rng, sides),
         _ => match rng.below(256) {
             0 => list_drive(&mut rng, sides, 60_000, 2000),
-            1..=16 => list_drive(&mut rng, sides, 3000, 300),
+            // Long calls, which play with a table where the book is small enough.
+            1..=4 => list_drive(&mut rng, sides, 10_000, 1000),
+            5..=16 => list_drive(&mut rng, sides, 3000, 300),
             17..=120 => list_drive(&mut rng, sides, 200, 60),
             _ => malformed_drive(&mut rng, sides),
         },
