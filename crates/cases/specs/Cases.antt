@@ -20,7 +20,8 @@ use Rattle.player.specs.declared.Order.the-variants.{Jump, Glide}
 use Rattle.player.specs.declared.Answer.{Answer}
 use Rattle.player.specs.Rate.{rateInRange, rateOf, askedLevel, advance}
 use Rattle.player.specs.Moves.{freshControl, jumped, gliding, sought, glideRate, rampAfter, moveGlide, fadeTarget, pointPlan, fadeAfter, movePoint, moveOutput}
-use Rattle.player.specs.Points.{limit, limitedWord, storeLevel, unit, phaseAt, offsetAt, coefficient, valueSum, levelValue, value, point}
+use Rattle.values.specs.Values.{limit, limitedWord, storeLevel, unit, phaseAt, offsetAt, coefficient, valueSum, levelValue, value}
+use Rattle.player.specs.Points.{point}
 use Rattle.player.specs.Outputs.{push, pushTwo, outputSum, output, nextVoice, voiceAfter, outputs}
 use Rattle.player.specs.Refusals.{glideCountWrong, outputCountWrong, positionWrong, levelsWrong, fadeWrong, rateWrong, glideWrong, historyWrong, lateNumber, openNumber, orderInputNumber, orderNumber, seekNumber, playStateNumber, playNumber}
 use Rattle.player.specs.Calls.{zeroVoice, freshVoice, openAnswer, ordered, orderAnswer, seekAnswer, Played, pointBound, playAnswer}

@@ -14,7 +14,8 @@ use Rattle.arith.specs.Lists.{at, wordAt}
 use Rattle.arith.proofs.Linear.{abs-pos-*}
 use Rattle.book.specs.Book.{sizesOf, levelTaps}
 use Rattle.player.specs.declared.Plan.{Plan}
-use Rattle.player.specs.Points.{unit, limitedWord, storeLevel, valueSum, levelValue, value, point}
+use Rattle.values.specs.Values.{unit, limitedWord, storeLevel, valueSum, levelValue, value}
+use Rattle.player.specs.Points.{point}
 use Rattle.player.specs.Outputs.{outputSum}
 use Rattle.drive.specs.Demand.{CloseTo}
 use Rattle.drive.specs.Exact.{exactLevel, exactValue, exactPoint, pointScale, exactScale}

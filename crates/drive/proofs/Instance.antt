@@ -21,7 +21,8 @@ use Rattle.player.specs.declared.Card.{Card}
 use Rattle.player.specs.declared.Order.the-variants.{Jump}
 use Rattle.player.specs.Rate.{rateInRange, rateOf, askedLevel, advance}
 use Rattle.player.specs.Moves.{freshControl, jumped, sought, rampAfter, moveGlide, fadeTarget, pointPlan, fadeAfter, movePoint, moveOutput}
-use Rattle.player.specs.Points.{limit, limitedWord, storeLevel, unit, phaseAt, offsetAt, coefficient, valueSum, levelValue, value, point}
+use Rattle.values.specs.Values.{limit, limitedWord, storeLevel, unit, phaseAt, offsetAt, coefficient, valueSum, levelValue, value}
+use Rattle.player.specs.Points.{point}
 use Rattle.player.specs.Outputs.{push, pushTwo, outputSum, output, nextVoice, voiceAfter, outputs}
 use Rattle.player.specs.Refusals.{outputCountWrong, positionWrong, levelsWrong, fadeWrong, rateWrong, glideWrong, historyWrong, lateNumber, openNumber, orderInputNumber, orderNumber, seekNumber, playStateNumber, playNumber}
 use Rattle.player.specs.Calls.{zeroVoice, freshVoice, openAnswer, ordered, orderAnswer, seekAnswer, playAnswer}

@@ -29,7 +29,8 @@ use Rattle.player.specs.declared.Card.{Card}
 use Rattle.player.specs.declared.Control.{Control}
 use Rattle.player.specs.declared.Voice.{Voice}
 use Rattle.player.specs.Moves.{freshControl, sought, moveGlide, pointPlan, movePoint, moveOutput}
-use Rattle.player.specs.Points.{limit, limitedWord, storeLevel, point}
+use Rattle.values.specs.Values.{limit, limitedWord, storeLevel}
+use Rattle.player.specs.Points.{point}
 use Rattle.player.specs.Outputs.{pushTwo, outputSum, output, nextVoice}
 use Rattle.player.specs.declared.Order.{Order}
 use Rattle.player.specs.Refusals.{orderNumber, seekNumber, playStateNumber, playNumber}
@@ -38,7 +39,8 @@ use Rattle.player.proofs.Histories.{outputSum-apart, pushTwo-all, pushTwo-both}
 use Rattle.player.proofs.Kept.{open-top, fresh-sound, ordered-sound, ordered-top, sought-sound, sought-top, moveGlide-top, moveGlide-sound, movePoint-top, movePoint-sound, moveOutput-top, moveOutput-sound, plan-old, plan-new, plan-step}
 use Rattle.player.specs.Sound.{Sound}
 use Rattle.player.proofs.Sound.{play-number, order-number, seek-number}
-use Rattle.player.proofs.Values.{limit-inside, valueSum-apart, valueSum-bound, point-bound}
+use Rattle.values.proofs.Values.{limit-inside, valueSum-apart, valueSum-bound}
+use Rattle.player.proofs.Fades.{point-bound}
 use Rattle.drive.specs.Exact.{exactLevel, exactPoint, pointScale, exactScale, exactOutput, ExactVoice, exactFresh, exactNext}
 use Rattle.drive.specs.Lists.{Call, order, seek, play, callNumber, exactBound, exactCallNumber}
 use Rattle.drive.specs.Demand.{Setting, storeOf, CloseTo}

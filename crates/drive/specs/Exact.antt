@@ -19,7 +19,7 @@ use Rattle.player.specs.declared.Control.{Control}
 use Rattle.player.specs.Rate.{rateOf}
 use Rattle.player.specs.declared.Plan.{Plan}
 use Rattle.player.specs.Moves.{freshControl, moveOutput}
-use Rattle.player.specs.Points.{limit, valueSum}
+use Rattle.values.specs.Values.{limit, valueSum}
 use Rattle.player.specs.Outputs.{pushTwo, outputSum}
 use Rattle.player.specs.Calls.{silence}
 

@@ -11,7 +11,7 @@ use lib.Pow.{pow-mono}
 use lib.Seq.{getD-set-same, getD-set-other}
 use Rattle.player.specs.declared.Control.{Control}
 use Rattle.player.specs.Rate.{askedLevel, advance}
-use Rattle.player.specs.Points.{unit}
+use Rattle.values.specs.Values.{unit}
 use Rattle.player.specs.Moves.{noFade, moveGlide, movePoint, moveOutput}
 use Rattle.player.specs.Sound.{Sound}
 use Rattle.player.specs.Inner.{controlAfter, firstPlan, secondPlan, steadyPlan, leftOf, rateAt, glideAt, controlAt}

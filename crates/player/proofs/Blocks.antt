@@ -28,7 +28,7 @@ use Rattle.player.specs.Sound.{Sound}
 use Rattle.player.proofs.Kept.{moveGlide-sound, movePoint-sound, moveOutput-sound, moveOutput-top, plan-old, plan-new, plan-step, plan-position}
 use Rattle.player.proofs.Histories.{pushTwo-all}
 use Rattle.player.proofs.Sound.{Within}
-use Rattle.player.proofs.Values.{point-bound}
+use Rattle.player.proofs.Fades.{point-bound}
 
 -- ---- the sum of an output, around the middle point that it reads
 

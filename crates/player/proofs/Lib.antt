@@ -2,14 +2,7 @@ pub mod Rates
 pub mod Sound
 pub mod Kept
 pub mod Glides
-pub mod Values
 pub mod Histories
-pub mod Steps
-pub mod Windows
-pub mod Staged
-pub mod Mix
-pub mod Split
-pub mod Raised
 pub mod Blocks
 pub mod RunPoints
 pub mod Steady
@@ -17,7 +10,4 @@ pub mod Along
 pub mod Filled
 pub mod Written
 pub mod Lines
-pub mod RowSums
-pub mod Newest
-pub mod Tables
-pub mod Totals
+pub mod Fades

@@ -20,10 +20,10 @@ use Rattle.book.specs.Book.{sizesOf, decimationTaps}
 use Rattle.book.specs.Check.{tapSum}
 use Rattle.book.proofs.Accepted.{Accepted, sizes-bounded, decimationTaps-length, decimationTaps-sum}
 use Rattle.levels.proofs.Around.{before-inside, after-inside, around, around-one, around-more, around-bound, tap-bound}
-use Rattle.player.specs.Points.{limit}
+use Rattle.values.specs.Values.{limit}
 use Rattle.player.specs.Outputs.{outputSum, output}
 use Rattle.player.specs.Inner.{TapStep, Summable, centredSum, sampleOf, lineOutput}
-use Rattle.player.proofs.Steps.{read32, read64}
+use Rattle.values.proofs.Steps.{read32, read64}
 use Rattle.player.proofs.Blocks.{outputSum-around}
 
 -- ---- the taps, step by step

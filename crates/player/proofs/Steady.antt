@@ -10,7 +10,8 @@ use lib.Dec.{eqb, ltb}
 use lib.IntN.{ℤ}
 use Rattle.player.specs.declared.Control.{Control}
 use Rattle.player.specs.Rate.{askedLevel, advance}
-use Rattle.player.specs.Points.{unit, storeLevel, levelValue, value, point}
+use Rattle.values.specs.Values.{unit, storeLevel, levelValue, value}
+use Rattle.player.specs.Points.{point}
 use Rattle.player.specs.Moves.{noFade, moveGlide, fadeTarget, pointPlan, fadeAfter, movePoint}
 use Rattle.player.specs.Inner.{steadyPlan}
 

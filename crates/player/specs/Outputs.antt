@@ -11,7 +11,8 @@ use Rattle.player.specs.declared.Control.{Control}
 use Rattle.player.specs.declared.Voice.{Voice}
 use Rattle.player.specs.declared.Plan.{Plan}
 use Rattle.player.specs.Moves.{moveGlide, pointPlan, movePoint, moveOutput}
-use Rattle.player.specs.Points.{limit, point}
+use Rattle.values.specs.Values.{limit}
+use Rattle.player.specs.Points.{point}
 
 -- the 81 newest points, newest first, after one more
 unfoldable pub push : ℤ → List ℤ → List ℤ

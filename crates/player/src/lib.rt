@@ -1,18 +1,14 @@
 // The driving-tone player. A voice goes from state to state by `Voice::open`, `order`, `seek` and `play`.
 
-mod biased; // level values four at a time, from raised words
 mod calls; // open, order, seek and play
 mod decimation; // outputs from a line of points
 mod glide; // a glide along a run of outputs
 mod moves; // what moves a voice: glide, fade, position
 mod outputs; // histories, outputs and blocks of them
-mod points; // level values and points
+mod points; // points from values
 mod rate; // rates as f32
 mod refusals; // the numbers of the calls
 mod runs; // runs of outputs: positions and points
-mod staging; // the words that a run reads
-mod table; // a book's phases, raised
-mod window; // level values at a run of positions
 
 // The opening card: a rate, and the top level T.
 pub struct Card {

@@ -11,11 +11,11 @@ ghost use Rattle.book.specs.Check.{bookNumber};
 ghost use Rattle.levels.specs.Sizes.{levelStart};
 ghost use Rattle.player.specs.Outputs.{voiceAfter, outputs};
 ghost use Rattle.player.specs.Sound.{Sound};
-ghost use Rattle.player.specs.Inner.{TableOf, lineOf};
+ghost use Rattle.values.specs.Inner.{TableOf};
+ghost use Rattle.player.specs.Inner.{lineOf};
 use crate::Voice;
 use crate::decimation::write_outputs;
 use crate::runs::next_points;
-use crate::table::stage_rows;
 
 // The line before a run: a history, widened to 64 bits, from place 128 on.
 fn line_of(history: [i32; 81]) -> [i64; 209]
@@ -139,7 +139,7 @@ pub fn fill(v: Voice, book: &[i32], store: &[i32], samples: usize, out: &mut [i1
     let s = book::read_sizes(book);
     if table_pays(out.len(), s.phases, s.taps) {
         let mut table = [0i64; 1664];
-        stage_rows(&mut table, book, s.phases, s.taps);
+        values::table::stage_rows(&mut table, book, s.phases, s.taps);
         return fill_by(&table, v, book, store, samples, out);
     }
     let none = [0i64; 1];

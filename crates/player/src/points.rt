@@ -1,233 +1,15 @@
-// Level values and points.
+// Points: a value, or in a fade a mean of two.
 
 ghost use mathlib.Core.Path.{_≡_};
-ghost use Prim.Native.Nat.{ℕ, _+_, _-_, _*_, _^_, _≤_, _<_};
-ghost use lib.IntN.{pos, negℤ, natAbs, _+ℤ_, _-ℤ_, _*ℤ_};
-ghost use lib.ListN.{length, getD, drop};
+ghost use Prim.Native.Nat.{ℕ, _+_, _-_, _^_, _≤_, _<_};
+ghost use lib.IntN.{pos, natAbs, _+ℤ_, _*ℤ_};
+ghost use lib.ListN.{length, getD};
 ghost use Rattle.arith.specs.Floor.{near};
-ghost use Rattle.arith.specs.Lists.{at, wordAt};
 ghost use Rattle.book.specs.Book.{sizesOf};
 ghost use Rattle.book.specs.Check.{bookNumber};
 ghost use Rattle.levels.specs.Sizes.{levelStart};
-ghost use Rattle.player.specs.Points.{limit, levelValue, value, point};
-ghost use Rattle.player.specs.Inner.{windowSum, restOf};
+ghost use Rattle.player.specs.Points.{point};
 use crate::Plan;
-
-// The sums of a level's words times impulses, and times differences.
-pub struct Sums {
-    pub impulses: i64,
-    pub differences: i64,
-}
-
-// A word, limited to ±bound.
-pub fn limited(x: i32, bound: i32) -> i64
-    requires { ⌜ (natAbs bound ≤ 2 ^ 27) × (bound ≡ pos (natAbs bound)) ⌝ }
-    ensures { λ r. ⌜ r ≡ limit (negℤ bound) bound x ⌝ }
-{
-    if x < -bound {
-        return -bound as i64;
-    }
-    if bound < x {
-        return bound as i64;
-    }
-    x as i64
-}
-
-// Word `place` − `half`, or 0 outside the level.
-pub fn word_at(words: &[i32], place: u64, half: u64) -> i32
-    ensures { λ r. ⌜ r ≡ wordAt (now (words .entry)) (pos place -ℤ pos half) ⌝ }
-{
-    if place < half {
-        return 0;
-    }
-    let i = (place - half) as usize;
-    if i < words.len() {
-        return words[i];
-    }
-    0
-}
-
-// Both sums of the `taps` words from word `first` − `half` on, where all of them lie inside the level: no index is tested. The impulses of
-// the phase begin `rows`, its differences lie `gap` words on.
-fn inner_sums(
-    rows: &[i32],
-    gap: usize,
-    words: &[i32],
-    level: u32,
-    first: usize,
-    half: usize,
-    taps: usize,
-) -> Sums
-    requires { ⌜ (level ≤ 4) × (taps ≤ 24) × (half ≤ first) × (first + taps ≤ half + length (now words)) × (first ≤ 2 ^ 33) × (gap + taps ≤ length (now rows)) × (taps ≤ length (now rows)) ⌝ }
-    requires { ⌜ ((k : ℕ) → natAbs (at (now rows) k) ≤ 65536) ⌝ }
-    ensures { λ r. ⌜ (r .impulses ≡ windowSum (now (words .entry)) level first half (now (rows .entry)) taps) × (r .differences ≡ windowSum (now (words .entry)) level first half (drop gap (now (rows .entry))) taps) ⌝ }
-{
-    let bound = level_bound(level);
-    let start = first - half;
-    let mut impulses: i64 = 0;
-    let mut differences: i64 = 0;
-    let mut i = 0;
-    while i < taps {
-        let w = limited(words[start + i], bound);
-        let k = taps - 1 - i;
-        impulses += w * rows[k] as i64;
-        differences += w * rows[gap + k] as i64;
-        i += 1;
-    }
-    Sums {
-        impulses,
-        differences,
-    }
-}
-
-// The same sums near an edge, words outside the level being 0.
-fn edge_sums(
-    rows: &[i32],
-    gap: usize,
-    words: &[i32],
-    level: u32,
-    first: u64,
-    half: u64,
-    taps: usize,
-) -> Sums
-    requires { ⌜ (level ≤ 4) × (taps ≤ 24) × (first ≤ 2 ^ 33) × (gap + taps ≤ length (now rows)) × (taps ≤ length (now rows)) ⌝ }
-    requires { ⌜ ((k : ℕ) → natAbs (at (now rows) k) ≤ 65536) ⌝ }
-    ensures { λ r. ⌜ (r .impulses ≡ windowSum (now (words .entry)) level first half (now (rows .entry)) taps) × (r .differences ≡ windowSum (now (words .entry)) level first half (drop gap (now (rows .entry))) taps) ⌝ }
-{
-    let bound = level_bound(level);
-    let mut impulses: i64 = 0;
-    let mut differences: i64 = 0;
-    let mut i = 0;
-    while i < taps {
-        let w = limited(word_at(words, first + i as u64, half), bound);
-        let k = taps - 1 - i;
-        impulses += w * rows[k] as i64;
-        differences += w * rows[gap + k] as i64;
-        i += 1;
-    }
-    Sums {
-        impulses,
-        differences,
-    }
-}
-
-// 2^(23 + level): the limit of the level's words
-pub fn level_bound(level: u32) -> i32
-    requires { ⌜ level ≤ 4 ⌝ }
-    ensures { λ r. ⌜ r ≡ pos (2 ^ (23 + level)) ⌝ }
-{
-    match level {
-        0 => 8388608,
-        1 => 16777216,
-        2 => 33554432,
-        3 => 67108864,
-        _ => 134217728,
-    }
-}
-
-// near((2^shift × impulses + offset × differences) / (2^14 × 2^shift)). The sum has up to 76 bits, so it is taken apart: the floor of
-// offset × differences / 2^shift, and whether that left a rest, which only says on which side of a half the number lies.
-pub fn mixed(impulses: i64, differences: i64, offset: u64, shift: u32) -> i64
-    requires { ⌜ (natAbs impulses ≤ 2 ^ 44) × (natAbs differences ≤ 2 ^ 45) × (offset < 2 ^ shift) × (28 ≤ shift) × (shift ≤ 32) ⌝ }
-    ensures { λ r. ⌜ r ≡ near (pos (2 ^ shift) *ℤ impulses +ℤ pos offset *ℤ differences) (16384 * 2 ^ shift) ⌝ }
-{
-    let e = offset as i64;
-    let high = differences >> 16;
-    let low = differences - high * 65536;
-    let tail = e * low;
-    let tail_high = tail >> 16;
-    let whole = e * high + tail_high;
-    let x = whole >> (shift - 16);
-    let rest = has_rest(whole, shift - 16, tail);
-    arith::near(2 * (impulses + x) + rest, 32768)
-}
-
-// 1 where 2^n does not divide `whole`, or 65536 does not divide `tail`, else 0.
-fn has_rest(whole: i64, n: u32, tail: i64) -> i64
-    requires { ⌜ n ≤ 16 ⌝ }
-    ensures { λ r. ⌜ r ≡ restOf whole n tail ⌝ }
-{
-    if tail % 65536 != 0 {
-        return 1;
-    }
-    let unit = 1i64 << n;
-    if whole % unit != 0 {
-        return 1;
-    }
-    0
-}
-
-// The value of a level at a position. `words` are the level's words; the book has `phases` phases of `taps` taps.
-fn level_value(
-    book: &[i32],
-    phases: usize,
-    taps: usize,
-    words: &[i32],
-    level: u32,
-    position: u64,
-) -> i32
-    requires { ⌜ (bookNumber (now book) ≡ 0) × (phases ≡ sizesOf (now book) .phases) × (taps ≡ sizesOf (now book) .taps) ⌝ }
-    requires { ⌜ (level ≤ 4) × (position ≤ 2 ^ 60) × (length (now words) ≤ 1048576) ⌝ }
-    ensures { λ r. ⌜ r ≡ levelValue (now (book .entry)) (now (words .entry)) level position ⌝ }
-{
-    let shift = 28 + level;
-    let p = position >> shift;
-    let scaled = (position - (p << shift)) * phases as u64;
-    let q = scaled >> shift;
-    let offset = scaled - (q << shift);
-    let row = 5 + q as usize * taps;
-    let rows = &book[row..];
-    let gap = phases * taps;
-    let half = taps / 2;
-    let first = p + 1;
-    let s = window_sums(rows, gap, words, level, first, half, taps);
-    mixed(s.impulses, s.differences, offset, shift) as i32
-}
-
-// Both sums, with no test of an index where the whole window lies inside the level.
-fn window_sums(
-    rows: &[i32],
-    gap: usize,
-    words: &[i32],
-    level: u32,
-    first: u64,
-    half: usize,
-    taps: usize,
-) -> Sums
-    requires { ⌜ (level ≤ 4) × (taps ≤ 24) × (half ≤ 12) × (first ≤ 2 ^ 33) × (gap + taps ≤ length (now rows)) × (taps ≤ length (now rows)) ⌝ }
-    requires { ⌜ ((k : ℕ) → natAbs (at (now rows) k) ≤ 65536) ⌝ }
-    ensures { λ r. ⌜ (r .impulses ≡ windowSum (now (words .entry)) level first half (now (rows .entry)) taps) × (r .differences ≡ windowSum (now (words .entry)) level first half (drop gap (now (rows .entry))) taps) ⌝ }
-{
-    let at = first as usize;
-    if half <= at {
-        if at + taps <= half + words.len() {
-            return inner_sums(rows, gap, words, level, at, half, taps);
-        }
-    }
-    edge_sums(rows, gap, words, level, first, half as u64, taps)
-}
-
-// The value of a level of a store. `starts` has the places of the levels.
-fn store_value(
-    book: &[i32],
-    phases: usize,
-    taps: usize,
-    store: &[i32],
-    starts: &[usize; 6],
-    samples: usize,
-    level: u32,
-    position: u64,
-) -> i32
-    requires { ⌜ (bookNumber (now book) ≡ 0) × (phases ≡ sizesOf (now book) .phases) × (taps ≡ sizesOf (now book) .taps) ⌝ }
-    requires { ⌜ (samples ≤ 1048576) × ((j : ℕ) → j < 6 → getD (now starts) j 0 ≡ levelStart samples j) ⌝ }
-    requires { ⌜ (level ≤ 4) × (position ≤ 2 ^ 60) × (levelStart samples (level + 1) ≤ length (now store)) ⌝ }
-    ensures { λ r. ⌜ r ≡ value (now (book .entry)) (now (store .entry)) samples level position ⌝ }
-{
-    let l = level as usize;
-    let start = starts[l];
-    let end = starts[l + 1];
-    level_value(book, phases, taps, &store[start..end], level, position)
-}
 
 // A weighted mean of two values, rounded: near(((F − i) × old + i × new) / F).
 fn faded(old: i32, new: i32, step: u32, fade: u32) -> i32
@@ -254,7 +36,7 @@ pub fn point_of(
     requires { ⌜ (p .old ≤ 4) × (p .new ≤ 4) × (p .step ≤ fade) × (p .position ≤ 2 ^ 60) × (levelStart samples (p .old + 1) ≤ length (now store)) × (levelStart samples (p .new + 1) ≤ length (now store)) ⌝ }
     ensures { λ r. ⌜ r ≡ point (now (book .entry)) (now (store .entry)) samples p ⌝ }
 {
-    let old = store_value(
+    let old = values::value::store_value(
         book,
         phases,
         taps,
@@ -267,7 +49,7 @@ pub fn point_of(
     if p.step == 0 {
         return old;
     }
-    let new = store_value(
+    let new = values::value::store_value(
         book,
         phases,
         taps,

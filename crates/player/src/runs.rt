@@ -2,15 +2,17 @@
 // of the line; the points of a run come before it.
 
 ghost use mathlib.Core.Path.{_≡_};
-ghost use Prim.Native.Nat.{ℕ, suc, _+_, _-_, _*_, _^_, _≤_, _<_};
+ghost use Prim.Native.Nat.{ℕ, _+_, _-_, _*_, _^_, _≤_, _<_};
 ghost use lib.ListN.{length, getD};
 ghost use Rattle.arith.specs.Lists.{overwrite};
 ghost use Rattle.book.specs.Book.{sizesOf};
 ghost use Rattle.book.specs.Check.{bookNumber};
 ghost use Rattle.levels.specs.Sizes.{levelStart};
-ghost use Rattle.player.specs.Points.{unit, point};
+ghost use Rattle.values.specs.Values.{unit};
+ghost use Rattle.player.specs.Points.{point};
 ghost use Rattle.player.specs.Sound.{Sound};
-ghost use Rattle.player.specs.Inner.{RampFits, TableOf, controlAfter, controlAt, firstPlan, secondPlan, runPoints, steadyPlan};
+ghost use Rattle.values.specs.Inner.{TableOf};
+ghost use Rattle.player.specs.Inner.{RampFits, controlAfter, controlAt, firstPlan, secondPlan, runPoints, steadyPlan};
 use crate::Control;
 use crate::Fade;
 use crate::glide::glide_at;
@@ -22,7 +24,6 @@ use crate::moves::point_moved;
 use crate::moves::point_plan;
 use crate::points::point_of;
 use crate::rate::asked_level;
-use crate::window::steady_points;
 
 // What a run leaves: the control, and how many outputs it made the points of.
 pub struct Run {
@@ -166,7 +167,7 @@ fn steady_run(
     let l = level as usize;
     let start = starts[l];
     let end = starts[l + 1];
-    steady_points(
+    values::window::steady_points(
         line,
         positions,
         2 * made,

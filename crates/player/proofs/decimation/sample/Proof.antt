@@ -8,7 +8,7 @@ use mir.Val.{SFits}
 use Rattle.arith.specs.Floor.{near}
 use Rattle.arith.proofs.Bits.{reads}
 use Rattle.arith.proofs.Linear.{linear}
-use Rattle.player.specs.Points.{limit}
+use Rattle.values.specs.Values.{limit}
 use Rattle.player.specs.Inner.{sampleOf}
 use Rattle.player.proofs.decimation.sample.Statement.{statement}
 use Rattle.player.proofs.decimation.sample.Tie as tie

@@ -7,7 +7,7 @@ use lib.IntN.{ℤ, natAbs}
 use lib.ListN.{length, set}
 use Rattle.arith.proofs.Bits.{reads}
 use Rattle.player.specs.Inner.{centredSum, sampleOf, lineOutput}
-use Rattle.player.proofs.Steps.{read64}
+use Rattle.values.proofs.Steps.{read64}
 use Rattle.player.proofs.Written.{written, written-none, length-written, written-next}
 use Rattle.player.proofs.Lines.{SumOf, sum-small, sum-fits, sample-is}
 use Rattle.player.proofs.decimation.write_fours.Statement.{statement}

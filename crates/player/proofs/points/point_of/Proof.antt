@@ -8,8 +8,9 @@ use mir.Syntax.{w32}
 use mir.Val.{SFits}
 use Rattle.arith.proofs.Bits.{reads}
 use Rattle.book.proofs.Accepted.{Accepted, accepted, sizes-bounded}
-use Rattle.player.specs.Points.{value, point}
-use Rattle.player.proofs.Values.{value-small}
+use Rattle.values.specs.Values.{value}
+use Rattle.player.specs.Points.{point}
+use Rattle.values.proofs.Values.{value-small}
 use Rattle.player.proofs.points.point_of.Statement.{statement}
 use Rattle.player.proofs.points.point_of.Tie as tie
 

@@ -12,7 +12,8 @@ use Rattle.book.proofs.Accepted.{accepted, sizes-bounded}
 use Rattle.levels.specs.Sizes.{levelLength, levelStart}
 use Rattle.levels.proofs.Lengths.{levelStart-more, levelLength-≤}
 use Rattle.player.specs.declared.Control.{Control}
-use Rattle.player.specs.Points.{storeLevel, levelValue, point}
+use Rattle.values.specs.Values.{storeLevel, levelValue}
+use Rattle.player.specs.Points.{point}
 use Rattle.player.specs.Inner.{firstPlan, secondPlan, runPoints, steadyPlan}
 use Rattle.player.proofs.Blocks.{start-mono}
 use Rattle.player.proofs.RunPoints.{run-tabulate}
