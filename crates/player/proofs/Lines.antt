@@ -101,36 +101,44 @@ module _ {taps line : List ℤ} {step : ℕ} (s : Summable taps step line) where
   tap-is : (k : ℕ) → k < length taps → tap-read k ≡ at taps k
   tap-is k l = let f = tap-fits k l in simp (reads, f)
 
-  around-small : (centre k : ℕ) → k ≤ length taps → natAbs (around taps line centre k) ≤ 2 ^ 44
-  around-small centre k l = around-bound taps line centre (s .small) (2 ^ 29) (s .bounded) k l
+  pub tap-read-small : (k : ℕ) → k < length taps → natAbs (tap-read k) ≤ 32768
+  tap-read-small k l = rw (tap-is k l) (tap-small k l)
 
-  around-fits : (centre k : ℕ) → k ≤ length taps → SFits w64 (around taps line centre k)
-  around-fits centre k l = abs-fits w64 (around taps line centre k) (omega (arith, around-small centre k l))
+  all-small : (centre : ℕ) → natAbs (around taps line centre (length taps)) ≤ 2 ^ 44
+  all-small centre = around-bound taps line centre (s .small) (2 ^ 29) (s .bounded) (length taps) (le-refl (length taps))
+
+  pub around-small : (centre : ℕ) {k : ℕ} → Place taps step k → natAbs (around taps line centre k) ≤ 2 ^ 44
+  around-small centre {k} p = go (decLe k (length taps))
+    where
+      go : Dec (k ≤ length taps) → natAbs (around taps line centre k) ≤ 2 ^ 44
+      go (yes l) = around-bound taps line centre (s .small) (2 ^ 29) (s .bounded) k l
+      go (no n) = rw (sum-end taps line centre p (s .some) (omega arith)) (all-small centre)
+
+  around-fits : (centre : ℕ) {k : ℕ} → Place taps step k → SFits w64 (around taps line centre k)
+  around-fits centre {k} p = abs-fits w64 (around taps line centre k) (omega (arith, around-small centre p))
 
   pub first-fits : (centre : ℕ) → SFits w64 (at taps 0 *ℤ at line centre)
-  first-fits centre = rw (← around-one taps line centre) (around-fits centre 1 (s .some))
+  first-fits centre = rw (← around-one taps line centre) (around-fits centre (first-place taps step))
 
-  -- v has the bits of the sum over the taps below k
-  module _ (centre k : ℕ) {v : ℕ} (e : v ≡ ofZ w64 (around taps line centre k)) where
-    sum-read : k ≤ length taps → toZ w64 v ≡ around taps line centre k
-    sum-read l = let f = around-fits centre k l in simp (e, reads, f)
+  pub first-is : (centre : ℕ) {x : ℤ} → x ≡ tap-read 0 *ℤ at line centre → x ≡ around taps line centre 1
+  first-is centre e = e ∙ ap (λ t. t *ℤ at line centre) (tap-is 0 (s .some)) ∙ sym (around-one taps line centre)
 
-    -- what adding tap k asks for
-    pub added-ready : k < length taps → k ≤ centre → centre + k < 209
-        → ((natAbs (toZ w64 v) ≤ 2 ^ 44) × (natAbs (tap-read k) ≤ 32768) × (k ≤ centre) × (centre + k < 209)) × ((i : ℕ) → natAbs (at line i) ≤ 2 ^ 29)
-    added-ready l m n = ((rw (sum-read (omega arith)) (around-small centre k (omega arith)), rw (tap-is k l) (tap-small k l), m, n), s .bounded)
+  module _ (centre : ℕ) {k : ℕ} (p : Place taps step k) where
+    -- the sum over the taps below k, read from its bits
+    pub sum-read : {v : ℕ} → v ≡ ofZ w64 (around taps line centre k) → toZ w64 v ≡ around taps line centre k
+    sum-read e = let f = around-fits centre p in simp (e, reads, f)
 
-    -- what it leaves
-    pub added-is : Place taps step k → k < length taps → k ≤ centre → {r : ℤ} → r ≡ toZ w64 v +ℤ tap-read k *ℤ (at line (centre - k) +ℤ at line (centre + k))
-        → ofZ w64 r ≡ ofZ w64 (around taps line centre (k + step))
-    added-is p l m g =
+    -- what adding tap k to it leaves
+    pub added-is : {x r : ℤ} → x ≡ around taps line centre k → k < length taps → k ≤ centre
+        → r ≡ x +ℤ tap-read k *ℤ (at line (centre - k) +ℤ at line (centre + k)) → r ≡ around taps line centre (k + step)
+    added-is e l m g =
         let pair : ℤ = at line (centre - k) +ℤ at line (centre + k) in
-        ap (ofZ w64) (g ∙ ap₂ (λ x t. x +ℤ t *ℤ pair) (sum-read (omega arith)) (tap-is k l) ∙ sym (sum-step taps line centre (s .stepped) p m))
+        g ∙ ap₂ (λ x t. x +ℤ t *ℤ pair) e (tap-is k l) ∙ sym (sum-step taps line centre (s .stepped) p m)
 
     -- after the last turn
-    pub sum-all : Place taps step k → length taps ≤ k → toZ w64 v ≡ centredSum taps line centre
+    pub sum-all : {x : ℤ} → x ≡ around taps line centre k → length taps ≤ k → x ≡ centredSum taps line centre
     unfolding centredSum
-    sum-all p l = let f = around-fits centre (length taps) (le-refl (length taps)) in simp (e, sum-end taps line centre p (s .some) l, reads, f)
+    sum-all e l = e ∙ sum-end taps line centre p (s .some) l
 
   -- ---- the sum of an output
 
@@ -141,7 +149,7 @@ module _ {taps line : List ℤ} {step : ℕ} (s : Summable taps step line) where
   module _ (n : ℕ) (x : ℤ) (e : SumOf n x) where
     pub sum-small : natAbs x ≤ 2 ^ 44
     unfolding centredSum
-    sum-small = rw e (around-small (126 - 2 * n + (length taps - 1)) (length taps) (le-refl (length taps)))
+    sum-small = rw e (all-small (126 - 2 * n + (length taps - 1)))
 
     pub sum-fits : SFits w64 x
     sum-fits = abs-fits w64 x (omega (arith, sum-small))

@@ -55,26 +55,44 @@ fn one_sum(line: &[i64; 209], taps: &[i32], step: usize, centre: usize) -> i64
     sum
 }
 
+// The first tap times the points at `centre` and the places 2, 4 and 6 after it.
+fn first_sums(first: i64, line: &[i64; 209], centre: usize) -> FourSums
+    requires { ⌜ (natAbs first ≤ 32768) × (centre + 6 < 209) × ((k : ℕ) → natAbs (at (now line) k) ≤ 2 ^ 29) ⌝ }
+    ensures { λ r. ⌜ (r .a ≡ first *ℤ at (now (line .entry)) centre) × (r .b ≡ first *ℤ at (now (line .entry)) (centre + 2)) × (r .c ≡ first *ℤ at (now (line .entry)) (centre + 4)) × (r .d ≡ first *ℤ at (now (line .entry)) (centre + 6)) ⌝ }
+{
+    let a = first * line[centre];
+    let b = first * line[centre + 2];
+    let c = first * line[centre + 4];
+    let d = first * line[centre + 6];
+    FourSums { a, b, c, d }
+}
+
+// Four sums, and a tap times the points k before and k after the place of each.
+fn taps_added(sums: FourSums, tap: i64, line: &[i64; 209], centre: usize, k: usize) -> FourSums
+    requires { ⌜ (natAbs (sums .a) ≤ 2 ^ 44) × (natAbs (sums .b) ≤ 2 ^ 44) × (natAbs (sums .c) ≤ 2 ^ 44) × (natAbs (sums .d) ≤ 2 ^ 44) ⌝ }
+    requires { ⌜ (natAbs tap ≤ 32768) × (k ≤ centre) × (centre + 6 + k < 209) × ((k : ℕ) → natAbs (at (now line) k) ≤ 2 ^ 29) ⌝ }
+    ensures { λ r. ⌜ (r .a ≡ sums .a +ℤ tap *ℤ (at (now (line .entry)) (centre - k) +ℤ at (now (line .entry)) (centre + k))) × (r .b ≡ sums .b +ℤ tap *ℤ (at (now (line .entry)) (centre + 2 - k) +ℤ at (now (line .entry)) (centre + 2 + k))) ⌝ }
+    ensures { λ r. ⌜ (r .c ≡ sums .c +ℤ tap *ℤ (at (now (line .entry)) (centre + 4 - k) +ℤ at (now (line .entry)) (centre + 4 + k))) × (r .d ≡ sums .d +ℤ tap *ℤ (at (now (line .entry)) (centre + 6 - k) +ℤ at (now (line .entry)) (centre + 6 + k))) ⌝ }
+{
+    let a = tap_added(sums.a, tap, line, centre, k);
+    let b = tap_added(sums.b, tap, line, centre + 2, k);
+    let c = tap_added(sums.c, tap, line, centre + 4, k);
+    let d = tap_added(sums.d, tap, line, centre + 6, k);
+    FourSums { a, b, c, d }
+}
+
 // The sums around `centre` and the places 2, 4 and 6 after it, with each tap read once for all four.
 fn four_sums(line: &[i64; 209], taps: &[i32], step: usize, centre: usize) -> FourSums
     requires { ⌜ Summable (now taps) step (now line) × (length (now taps) ≤ centre + 1) × (centre + 6 + length (now taps) ≤ 209) ⌝ }
     ensures { λ r. ⌜ (r .a ≡ centredSum (now (taps .entry)) (now (line .entry)) centre) × (r .b ≡ centredSum (now (taps .entry)) (now (line .entry)) (centre + 2)) × (r .c ≡ centredSum (now (taps .entry)) (now (line .entry)) (centre + 4)) × (r .d ≡ centredSum (now (taps .entry)) (now (line .entry)) (centre + 6)) ⌝ }
 {
-    let first = taps[0] as i64;
-    let mut a = first * line[centre];
-    let mut b = first * line[centre + 2];
-    let mut c = first * line[centre + 4];
-    let mut d = first * line[centre + 6];
+    let mut sums = first_sums(taps[0] as i64, line, centre);
     let mut k = 1;
     while k < taps.len() {
-        let tap = taps[k] as i64;
-        a = tap_added(a, tap, line, centre, k);
-        b = tap_added(b, tap, line, centre + 2, k);
-        c = tap_added(c, tap, line, centre + 4, k);
-        d = tap_added(d, tap, line, centre + 6, k);
+        sums = taps_added(sums, taps[k] as i64, line, centre, k);
         k += step;
     }
-    FourSums { a, b, c, d }
+    sums
 }
 
 // The output of a sum: rounded, and limited to 16 bits.

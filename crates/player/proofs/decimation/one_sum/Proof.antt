@@ -11,7 +11,7 @@ use mir.Facts.{sfits-widen}
 use Rattle.arith.specs.Lists.{at}
 use Rattle.arith.proofs.Bits.{reads}
 use Rattle.levels.proofs.Around.{around, around-one}
-use Rattle.player.proofs.Lines.{Place, first-place, next-place, point-fits, tap-fits, first-fits, added-ready, added-is, sum-all}
+use Rattle.player.proofs.Lines.{Place, first-place, next-place, point-fits, tap-fits, tap-read-small, first-fits, around-small, sum-read, added-is, sum-all}
 use Rattle.player.proofs.decimation.one_sum.Statement.{statement}
 use Rattle.player.proofs.decimation.one_sum.Tie as tie
 
@@ -78,7 +78,9 @@ tap-added-requires : tie.Need-tap-added-requires Inv-loop μ-loop
 tap-added-requires c κs =
     let a = c .before .before in
     let s = a .before .before .before in
-    added-ready (s .pre .0) (centre s) (a .loop .k) (a .loop .inv .1) (omega arith) (omega arith) (omega arith)
+    let f = s .pre .0 in
+    let p = a .loop .inv .0 in
+    ((rw (sum-read f (centre s) p (a .loop .inv .1)) (around-small f (centre s) p), tap-read-small f (a .loop .k) (omega arith), omega arith, omega arith), f .bounded)
 
 add-k : tie.Need-add-k Inv-loop μ-loop
 add-k c = omega (arith, c .before .before .before .before .before .before .pre .0 .stepped .high)
@@ -90,16 +92,18 @@ loop-again : tie.Need-loop-again Inv-loop μ-loop
 loop-again c =
     let a = c .before .before .before in
     let s = a .before .before .before in
-    let l : a .loop .k < length (taps s) = omega arith in (
-      next-place (s .pre .0 .stepped) (a .loop .inv .0) l,
-      added-is (s .pre .0) (centre s) (a .loop .k) (a .loop .inv .1) (a .loop .inv .0) l (omega arith) (c .tap-added .ensures),
-    )
+    let f = s .pre .0 in
+    let p = a .loop .inv .0 in
+    let l : a .loop .k < length (taps s) = omega arith in
+    (next-place (f .stepped) p l, ap (ofZ w64) (added-is f (centre s) p (sum-read f (centre s) p (a .loop .inv .1)) l (omega arith) (c .tap-added .ensures)))
 
 returns : tie.Need-returns Inv-loop μ-loop
 returns c =
     let a = c .before in
     let s = a .before .before .before in
-    sum-all (s .pre .0) (centre s) (a .loop .k) (a .loop .inv .1) (a .loop .inv .0) (omega arith)
+    let f = s .pre .0 in
+    let p = a .loop .inv .0 in
+    sum-all f (centre s) p (sum-read f (centre s) p (a .loop .inv .1)) (omega arith)
 
 pub one-sum-spec : {M : Type 1} → statement M
 one-sum-spec =
