@@ -9,7 +9,7 @@ use mir.ValLaws.{toZ-ofZ}
 use Rattle.arith.specs.Lists.{at}
 use Rattle.arith.proofs.Bits.{reads}
 use Rattle.arith.proofs.Integers.{abs-fits}
-use Rattle.player.proofs.Steps.{read64}
+use Rattle.values.proofs.Steps.{read64}
 use Rattle.player.proofs.decimation.taps_added.Statement.{statement}
 use Rattle.player.proofs.decimation.taps_added.Tie as tie
 
