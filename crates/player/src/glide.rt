@@ -46,7 +46,7 @@ fn scaled(z: i64, c: u32) -> i64
 }
 
 // R0 + (R1 − R0) × j / c, of the output j that a glide has done.
-fn place_of(g: Ramp) -> Quotient
+fn rate_quotient(g: Ramp) -> Quotient
     requires { ⌜ RampFits g ⌝ }
     ensures { λ r. ⌜ r ≡ quotient (glideSum g (g .done)) (g .count) ⌝ }
 {
@@ -69,7 +69,7 @@ pub fn rates_of(c: Control) -> Rates
             slope: 0,
         };
     }
-    let place = place_of(g);
+    let place = rate_quotient(g);
     let part = scaled(place.rest as i64, count);
     let slope = scaled(g.target as i64 - g.start as i64, count);
     Rates {

@@ -13,13 +13,13 @@ ghost use Rattle.values.specs.Values.{limit, levelValue, value};
 ghost use Rattle.values.specs.Inner.{windowSum, restOf};
 
 // The sums of a level's words times impulses, and times differences.
-pub struct Sums {
+pub(crate) struct Sums {
     pub impulses: i64,
     pub differences: i64,
 }
 
 // A word, limited to ±bound.
-pub fn limited(x: i32, bound: i32) -> i64
+pub(crate) fn limited(x: i32, bound: i32) -> i64
     requires { ⌜ (natAbs bound ≤ 2 ^ 27) × (bound ≡ pos (natAbs bound)) ⌝ }
     ensures { λ r. ⌜ r ≡ limit (negℤ bound) bound x ⌝ }
 {
@@ -33,7 +33,7 @@ pub fn limited(x: i32, bound: i32) -> i64
 }
 
 // Word `place` − `half`, or 0 outside the level.
-pub fn word_at(words: &[i32], place: u64, half: u64) -> i32
+pub(crate) fn word_at(words: &[i32], place: u64, half: u64) -> i32
     ensures { λ r. ⌜ r ≡ wordAt (now (words .entry)) (pos place -ℤ pos half) ⌝ }
 {
     if place < half {
@@ -111,7 +111,7 @@ fn edge_sums(
 }
 
 // 2^(23 + level): the limit of the level's words
-pub fn level_bound(level: u32) -> i32
+pub(crate) fn level_bound(level: u32) -> i32
     requires { ⌜ level ≤ 4 ⌝ }
     ensures { λ r. ⌜ r ≡ pos (2 ^ (23 + level)) ⌝ }
 {
@@ -126,7 +126,7 @@ pub fn level_bound(level: u32) -> i32
 
 // near((2^shift × impulses + offset × differences) / (2^14 × 2^shift)). The sum has up to 76 bits, so it is taken apart: the floor of
 // offset × differences / 2^shift, and whether that left a rest, which only says on which side of a half the number lies.
-pub fn mixed(impulses: i64, differences: i64, offset: u64, shift: u32) -> i64
+pub(crate) fn mixed(impulses: i64, differences: i64, offset: u64, shift: u32) -> i64
     requires { ⌜ (natAbs impulses ≤ 2 ^ 44) × (natAbs differences ≤ 2 ^ 45) × (offset < 2 ^ shift) × (28 ≤ shift) × (shift ≤ 32) ⌝ }
     ensures { λ r. ⌜ r ≡ near (pos (2 ^ shift) *ℤ impulses +ℤ pos offset *ℤ differences) (16384 * 2 ^ shift) ⌝ }
 {

@@ -31,7 +31,9 @@ rem-r : tie.Need-rem-r
 rem-r c = (bits-above-0 w64 (c .pre), simp (reads, c .fits .a, c .fits .b) (quotient-fits c))
 
 add-result : tie.Need-add-result
-add-result c = let s = c .before in simp (reads, s .fits .a, s .fits .b, remainder-fits s) (sum-fits c)
+add-result c =
+    let s = c .before in
+    simp (reads, s .fits .a, s .fits .b, remainder-fits s) (simp linear (omega (signed, below c, s .pre, simp linear at (remainder-fits s), simp linear at (s .fits .b))))
 
 returns : tie.Need-returns
 returns c = let s = c .before in simp (reads, s .fits .a, s .fits .b, remainder-fits s, sum-fits c) (rest-below (s .args .a) (s .pre) (below c))

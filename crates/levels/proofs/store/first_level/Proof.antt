@@ -76,7 +76,7 @@ cast-store : tie.Need-cast-store Inv-loop μ-loop
 cast-store c = simp (reads, x-fits c) (sfits-widen tt (x-fits c))
 
 mul-store-2 : tie.Need-mul-store-2 Inv-loop μ-loop
-mul-store-2 c = simp (reads, toZ-ofZ-from w16, x-fits c) (word-fits c)
+mul-store-2 c = simp (reads, toZ-ofZ-from w16, x-fits c) (simp linear (omega (arith, simp linear at (x-fits c))))
 
 mul-t10 : tie.Need-mul-t10 Inv-loop μ-loop
 mul-t10 c = omega (arith, same-length-now (a c))

@@ -45,15 +45,15 @@ module _ (e : tie.Else1) where
   way-fits : SFits w64 way
   way-fits = abs-fits w64 way (omega (arith, way-high g fits))
 
-module _ (a : tie.After-place-of) where
+module _ (a : tie.After-rate-quotient) where
   abbrev under : tie.Else1
   under = a .before
 
   abbrev p : Quotient
-  p = a .place-of .result
+  p = a .rate-quotient .result
 
   place-is : p ≡ quotient (glideSum (g under) (g under .done)) (g under .count)
-  place-is = a .place-of .ensures
+  place-is = a .rate-quotient .ensures
 
   rest-small : p .rest < g under .count
   rest-small = subst (λ q. q .rest < g under .count) (sym place-is) (rest-high (glideSum (g under) (g under .done)) (some (g under) (fits under)))
@@ -75,7 +75,7 @@ module _ (a : tie.After-place-of) where
 
 -- what the two calls leave
 module _ (b : tie.After-scaled2) where
-  abbrev at-place : tie.After-place-of
+  abbrev at-place : tie.After-rate-quotient
   at-place = b .before .before .before .before .before
 
   abbrev u : ℤ
@@ -111,8 +111,8 @@ returns c =
     let s = c .before .before .before in
     simp (reads, rate-low s, rate-fits s) (still-rates (s .args .c) (c .before .if1 .taken) (s .pre .rate-high))
 
-place-of-requires : tie.Need-place-of-requires
-place-of-requires c κs = fits c
+rate-quotient-requires : tie.Need-rate-quotient-requires
+rate-quotient-requires c κs = fits c
 
 cast-scaled : tie.Need-cast-scaled
 cast-scaled c = search needs
@@ -159,7 +159,7 @@ rates-of-spec =
     cast-t8
     mul-t9
     returns
-    place-of-requires
+    rate-quotient-requires
     cast-scaled
     scaled-requires
     cast-scaled-2

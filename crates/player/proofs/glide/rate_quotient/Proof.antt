@@ -1,4 +1,4 @@
--- `player::glide::place_of` meets its contract: no number on the way is above 2^50. Assumes nothing.
+-- `player::glide::rate_quotient` meets its contract: no number on the way is above 2^50. Assumes nothing.
 use borrow.Author.Needs.{needs}
 use Prim.Native.Nat.{_^_, _<_}
 use native.Mathlib.Omega.{arith}
@@ -11,8 +11,8 @@ use Rattle.arith.proofs.Integers.{abs-fits}
 use Rattle.player.specs.declared.Ramp.{Ramp}
 use Rattle.player.specs.Inner.{RampFits, glideSum}
 use Rattle.player.proofs.Glides.{way-high, start-product, way-product, sum-high}
-use Rattle.player.proofs.glide.place_of.Statement.{statement}
-use Rattle.player.proofs.glide.place_of.Tie as tie
+use Rattle.player.proofs.glide.rate_quotient.Statement.{statement}
+use Rattle.player.proofs.glide.rate_quotient.Tie as tie
 
 module _ (e : tie.Start) where
   abbrev g : Ramp
@@ -87,8 +87,8 @@ returns c =
     let e = c .before .before .before .before in
     simp (reads, start-low e, target-low e, count-low e, done-low e, way-fits e, start-fits e, done-fits e, sum-fits e) at (c .divided .ensures)
 
-pub place-of-spec : {M : Type 1} → statement M
-place-of-spec =
+pub rate-quotient-spec : {M : Type 1} → statement M
+rate-quotient-spec =
     tie.close
     (tie.spec
     cast-start
