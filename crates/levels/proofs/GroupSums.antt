@@ -14,7 +14,8 @@ use Rattle.arith.proofs.Linear.{linear}
 use Rattle.arith.proofs.Lists.{at-outside, at-part, part-length, length-tabulate, getD-tabulate, tabulate-ext}
 use Rattle.book.specs.Check.{tapSum}
 use Rattle.levels.specs.Sizes.{halfLength}
-use Rattle.levels.specs.Levels.{levelSum, levelWord, sumsAround, nextLevel}
+use Rattle.levels.specs.Levels.{levelSum, levelWord, nextLevel}
+use Rattle.levels.specs.Inner.{sumsAround}
 use Rattle.levels.proofs.Around.{around, around-suc, around-bound}
 use Rattle.levels.proofs.Laws.{length-next, at-next}
 

@@ -1,6 +1,6 @@
 -- The octave levels of a recording (document 01, "Octave levels"). h is the list of level taps.
 use mathlib.Core.List.{List, _++_, map}
-use Prim.Native.Nat.{ℕ, zero, suc, _+_, _*_, pred}
+use Prim.Native.Nat.{ℕ, zero, suc, _*_, pred}
 use lib.IntN.{ℤ, pos, natAbs, _+ℤ_, _*ℤ_}
 use lib.ListN.{length}
 use Rattle.arith.specs.Floor.{near}
@@ -15,10 +15,6 @@ firstLevel samples = map (λ x. x *ℤ pos 256) samples
 -- the sum over k = −A..A of h[|k|] × word (2n + k), words outside the level being 0
 unfoldable pub levelSum : List ℤ → List ℤ → ℕ → ℤ
 levelSum h level n = sumAround (pred (length h)) (λ k. at h (natAbs k) *ℤ wordAt level (pos (2 * n) +ℤ k))
-
--- the sums over the taps up to tap k, around word c and each second word after it, n in all
-abbrev pub sumsAround : List ℤ → List ℤ → ℕ → ℕ → ℕ → List ℤ
-sumsAround h level k c n = tabulate n (λ j. sumAround k (λ i. at h (natAbs i) *ℤ wordAt level (pos (c + 2 * j) +ℤ i)))
 
 -- word n of the level above: near(that sum / 16384)
 unfoldable pub levelWord : List ℤ → List ℤ → ℕ → ℤ

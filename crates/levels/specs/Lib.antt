@@ -1,3 +1,4 @@
 pub mod Sizes
 pub mod Levels
 pub mod Build
+pub mod Inner

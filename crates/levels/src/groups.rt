@@ -8,7 +8,8 @@ ghost use lib.ListN.{length};
 ghost use Rattle.arith.specs.Floor.{near};
 ghost use Rattle.arith.specs.Lists.{at, part, overwrite};
 ghost use Rattle.book.specs.Check.{tapSum};
-ghost use Rattle.levels.specs.Levels.{sumsAround, nextLevel};
+ghost use Rattle.levels.specs.Levels.{nextLevel};
+ghost use Rattle.levels.specs.Inner.{sumsAround};
 use crate::sums::first_product;
 use crate::sums::with_tap;
 

@@ -12,7 +12,7 @@ use mir.ValLaws.{toZ-ofZ}
 use Rattle.arith.specs.Lists.{at}
 use Rattle.arith.proofs.Bits.{reads}
 use Rattle.arith.proofs.Lists.{paste-none, paste-more, paste-behind, paste-whole}
-use Rattle.levels.specs.Levels.{sumsAround}
+use Rattle.levels.specs.Inner.{sumsAround}
 use Rattle.levels.proofs.Around.{around}
 use Rattle.levels.proofs.GroupSums.{length-sums, at-sums, sums-without}
 use Rattle.levels.proofs.groups.add_tap.Statement.{statement}

@@ -11,7 +11,7 @@ use mir.Val.{SFits}
 use Rattle.arith.specs.Lists.{at}
 use Rattle.arith.proofs.Bits.{reads}
 use Rattle.arith.proofs.Lists.{paste-none, paste-more, paste-whole}
-use Rattle.levels.specs.Levels.{sumsAround}
+use Rattle.levels.specs.Inner.{sumsAround}
 use Rattle.levels.proofs.GroupSums.{length-sums, at-sums}
 use Rattle.levels.proofs.groups.first_sums.Statement.{statement}
 use Rattle.levels.proofs.groups.first_sums.Tie as tie

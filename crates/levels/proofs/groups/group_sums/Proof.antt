@@ -5,7 +5,7 @@ use Prim.Native.Nat.{ℕ, _+_, _-_, _≤_, pred}
 use native.Mathlib.Omega.{arith}
 use lib.IntN.{ℤ}
 use lib.ListN.{length}
-use Rattle.levels.specs.Levels.{sumsAround}
+use Rattle.levels.specs.Inner.{sumsAround}
 use Rattle.levels.proofs.GroupSums.{length-sums}
 use Rattle.levels.proofs.groups.group_sums.Statement.{statement}
 use Rattle.levels.proofs.groups.group_sums.Tie as tie

@@ -12,7 +12,7 @@ use Rattle.arith.specs.Floor.{near}
 use Rattle.arith.specs.Lists.{part, overwrite}
 use Rattle.arith.proofs.Lists.{part-length}
 use Rattle.levels.specs.Sizes.{halfLength}
-use Rattle.levels.specs.Levels.{sumsAround}
+use Rattle.levels.specs.Inner.{sumsAround}
 use Rattle.levels.proofs.Lengths.{halfLength-holds}
 use Rattle.levels.proofs.GroupSums.{length-sums, sums-bound, words-are}
 use Rattle.levels.proofs.groups.write_group.Statement.{statement}
