@@ -118,7 +118,7 @@ fn fill_by(
     Voice { control, history }
 }
 
-// Whether to make a table: it has room for 832 impulses with a word a phase, and some 100 outputs pay for it.
+// Whether to make a table: it has room for 832 impulses with a word a phase, and some 130 outputs pay for it.
 fn table_pays(outputs: usize, phases: usize, taps: usize) -> bool
     requires { ⌜ (phases ≤ 128) × (taps ≤ 24) ⌝ }
     ensures { λ r. ⌜ (r ≡ true → phases * (taps + 1) ≤ 832) ⌝ }
