@@ -4,8 +4,10 @@ pub mod Integers
 pub mod Ring
 pub mod Bits
 pub mod Floor
+pub mod Limit
 pub mod Rest
 pub mod Sum
 pub mod Lists
 pub mod Parts
+pub mod Written
 pub mod Tests

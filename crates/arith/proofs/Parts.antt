@@ -1,12 +1,14 @@
 -- Parts of lists that are joined or written over. Assumes nothing.
 use mathlib.Core.Path.{_≡_, refl, sym, ap, ap₂, _∙_}
-use mathlib.Core.List.{List, _++_, append-assoc}
-use Prim.Native.Nat.{ℕ, _+_, _-_, _≤_}
+use mathlib.Core.List.{List, [], _∷_, _++_, append-assoc, append-nil}
+use Prim.Native.Nat.{ℕ, zero, suc, _+_, _-_, _≤_, _<_}
+use native.Mathlib.Decide.{decLt}
 use native.Mathlib.Omega.{arith}
-use lib.ListN.{length, take, drop, length-append, length-drop}
-use lib.Seq.{length-take-le, take-add, take-at, drop-at, drop-drop, drop-append-add, paste, take-paste, drop-paste}
-use Rattle.arith.specs.Lists.{part, overwrite}
-use Rattle.arith.proofs.Lists.{part-length}
+use lib.IntN.{ℤ, pos}
+use lib.ListN.{length, take, drop, replicate, length-append, length-take, length-drop}
+use lib.Seq.{length-take-le, take-add, take-at, drop-at, drop-drop, drop-length, drop-append-add, getD-take, getD-drop, paste, take-paste, drop-paste, length-paste}
+use Rattle.arith.specs.Lists.{at, part, tabulate, overwrite}
+use Rattle.arith.proofs.Lists.{part-length, at-outside, paste-all}
 
 pub part-middle : {A : Type 0} (xs ys zs : List A) (a n : ℕ) → length xs ≡ a → length ys ≡ n → part (xs ++ (ys ++ zs)) a n ≡ ys
 part-middle xs ys zs a n e f = ap (take n) (drop-at xs (ys ++ zs) a e) ∙ take-at ys zs n f
@@ -43,5 +45,58 @@ overwrite-again xs ys zs h =
     let f : 0 + length ys + d ≡ 0 + length zs = omega arith in
     ap (λ r. zs ++ r) (ap (λ n. drop n (ys ++ drop (0 + length ys) xs)) e ∙ drop-append-add ys (drop (0 + length ys) xs) d ∙ drop-drop d (0 + length ys) xs ∙ ap (λ n. drop n xs) f)
 
-pub overwrite-length : {A : Type 0} (xs ys : List A) → length ys ≤ length xs → length (overwrite xs 0 ys) ≡ length xs
-overwrite-length xs ys h = simp (length-append, length-drop) (omega arith)
+pub length-overwrite : {A : Type 0} (xs ys : List A) (a : ℕ) → a + length ys ≤ length xs → length (overwrite xs a ys) ≡ length xs
+length-overwrite xs ys a h = ap length (sym (paste-all xs a ys (length ys) refl)) ∙ length-paste xs a ys (length ys) h (omega arith)
+
+-- from the place that is written on
+pub drop-overwrite : {A : Type 0} (xs ys : List A) (a : ℕ) → a ≤ length xs → drop a (overwrite xs a ys) ≡ ys ++ drop (a + length ys) xs
+drop-overwrite xs ys a h =
+    ap (drop a) (append-assoc (take a xs) ys (drop (a + length ys) xs)) ∙ drop-at (take a xs) (ys ++ drop (a + length ys) xs) a (length-take-le a xs h)
+
+-- what is written up to the end is what lies there
+pub overwrite-end : {A : Type 0} (xs ys : List A) (a : ℕ) → a + length ys ≡ length xs → drop a (overwrite xs a ys) ≡ ys
+overwrite-end xs ys a e = drop-overwrite xs ys a (omega arith) ∙ ap (λ n. ys ++ drop n xs) e ∙ ap (λ r. ys ++ r) (drop-length xs) ∙ append-nil ys
+
+-- the words of a list, one by one
+tabulate-take : (zs : List ℤ) (n : ℕ) (f : ℕ → ℤ) → n ≤ length zs → ((k : ℕ) → k < n → f k ≡ at zs k) → tabulate n f ≡ take n zs
+unfolding tabulate
+tabulate-take zs zero f h g = refl
+tabulate-take [] (suc n) f h g = absurd (omega arith)
+tabulate-take (z ∷ zs) (suc n) f h g = ap₂ _∷_ (g 0 (omega arith)) (tabulate-take zs n (λ k. f (suc k)) (omega arith) (λ k l. g (suc k) (omega arith)))
+
+pub tabulate-part : (zs : List ℤ) (a n : ℕ) (f : ℕ → ℤ) → a + n ≤ length zs → ((k : ℕ) → k < n → f k ≡ at zs (a + k)) → tabulate n f ≡ part zs a n
+tabulate-part zs a n f h g = tabulate-take (drop a zs) n f (simp length-drop (omega arith)) (λ k l. g k l ∙ sym (getD-drop a zs k (pos 0)))
+
+-- n words more of ys
+pub paste-run : (xs ys : List ℤ) (i n : ℕ) (f : ℕ → ℤ) → i + n ≤ length xs → i + n ≤ length ys → ((k : ℕ) → k < n → f k ≡ at ys (i + k))
+    → overwrite (paste xs 0 ys i) i (tabulate n f) ≡ paste xs 0 ys (i + n)
+paste-run xs ys i n f room h g =
+    let rest : tabulate n f ≡ part ys i n = tabulate-part ys i n f h g in
+    let e : i ≡ 0 + i = omega arith in
+    ap₂ (overwrite (paste xs 0 ys i)) e rest ∙ paste-part xs ys 0 i n (omega arith) h
+
+-- ---- what holds of every word
+
+module _ (Q : ℤ → Type 0) (none : Q (pos 0)) where
+  append-all : (xs ys : List ℤ) → ((k : ℕ) → Q (at xs k)) → ((k : ℕ) → Q (at ys k)) → (k : ℕ) → Q (at (xs ++ ys) k)
+  append-all [] ys h g k = g k
+  append-all (x ∷ xs) ys h g zero = h 0
+  append-all (x ∷ xs) ys h g (suc k) = append-all xs ys (λ i. h (suc i)) g k
+
+  pub take-every : (n : ℕ) (xs : List ℤ) → ((k : ℕ) → Q (at xs k)) → (k : ℕ) → Q (at (take n xs) k)
+  take-every n xs h k = go (decLt k n)
+    where
+      go : Dec (k < n) → Q (at (take n xs) k)
+      go (yes l) = rw (getD-take n xs k (pos 0) l) (h k)
+      go (no l) = rw (at-outside (take n xs) k (simp length-take (omega arith))) none
+
+  pub drop-every : (n : ℕ) (xs : List ℤ) → ((k : ℕ) → Q (at xs k)) → (k : ℕ) → Q (at (drop n xs) k)
+  drop-every n xs h k = rw (getD-drop n xs k (pos 0)) (h (n + k))
+
+  pub overwrite-every : (xs ys : List ℤ) (a : ℕ) → ((k : ℕ) → Q (at xs k)) → ((k : ℕ) → Q (at ys k)) → (k : ℕ) → Q (at (overwrite xs a ys) k)
+  overwrite-every xs ys a h g = append-all (take a xs ++ ys) (drop (a + length ys) xs) (append-all (take a xs) ys (take-every a xs h) g) (drop-every (a + length ys) xs h)
+
+  pub zeros-every : (n k : ℕ) → Q (at (replicate n (pos 0)) k)
+  zeros-every zero k = none
+  zeros-every (suc n) zero = none
+  zeros-every (suc n) (suc k) = zeros-every n k

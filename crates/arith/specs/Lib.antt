@@ -1,4 +1,5 @@
 pub mod Floor
+pub mod Limit
 pub mod Lists
 pub mod Sum
 pub mod Tests

@@ -3,3 +3,4 @@ pub mod Bounds
 pub mod Parts
 pub mod Runs
 pub mod Accepted
+pub mod Around

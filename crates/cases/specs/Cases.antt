@@ -12,19 +12,23 @@ use Rattle.arith.specs.Tests.{eqZ, every}
 use Rattle.book.specs.Number.{refuse, _otherwise_}
 use Rattle.book.specs.Book.{sizesOf, differencesAt, levelTapsAt, decimationTapsAt, bookLength, impulseWord, impulse, difference, levelTaps, decimationTaps}
 use Rattle.book.specs.Check.{powerOfTwo, sizesInRange, wordsInRange, coefficientsInRange, differencesRight, phaseSum, tapSum, sumsInRange, bookNumber}
-use Rattle.levels.specs.Sizes.{halfLength, levelLength, levelStart, storeLength, samplesInRange, topInRange}
-use Rattle.levels.specs.Levels.{firstLevel, levelSum, levelWord, nextLevel, levelOf, levelsOf}
+use Rattle.octave.specs.Octave.{halfLength, levelSum, levelWord, nextLevel}
+use Rattle.levels.specs.Sizes.{levelLength, levelStart, storeLength, samplesInRange, topInRange}
+use Rattle.levels.specs.Levels.{firstLevel, levelOf, levelsOf}
 use Rattle.levels.specs.Build.{storeNumber, buildAnswer}
 use Rattle.player.specs.declared.Voice.{Voice}
-use Rattle.player.specs.declared.Order.the-variants.{Jump, Glide}
+use Rattle.control.specs.declared.Order.the-variants.{Jump, Glide}
 use Rattle.player.specs.declared.Answer.{Answer}
-use Rattle.player.specs.Rate.{rateInRange, rateOf, askedLevel, advance}
-use Rattle.player.specs.Moves.{freshControl, jumped, gliding, sought, glideRate, rampAfter, moveGlide, fadeTarget, pointPlan, fadeAfter, movePoint, moveOutput}
-use Rattle.values.specs.Values.{limit, limitedWord, storeLevel, unit, phaseAt, offsetAt, coefficient, valueSum, levelValue, value}
-use Rattle.player.specs.Points.{point}
-use Rattle.player.specs.Outputs.{push, pushTwo, outputSum, output, nextVoice, voiceAfter, outputs}
-use Rattle.player.specs.Refusals.{glideCountWrong, outputCountWrong, positionWrong, levelsWrong, fadeWrong, rateWrong, glideWrong, historyWrong, lateNumber, openNumber, orderInputNumber, orderNumber, seekNumber, playStateNumber, playNumber}
-use Rattle.player.specs.Calls.{zeroVoice, freshVoice, openAnswer, ordered, orderAnswer, seekAnswer, Played, pointBound, playAnswer}
+use Rattle.control.specs.Rate.{rateInRange, rateOf, askedLevel, advance}
+use Rattle.control.specs.Moves.{freshControl, jumped, gliding, sought, glideRate, glideAfter, moveGlide, fadeTarget, pointPlan, fadeAfter, movePoint, moveOutput}
+use Rattle.control.specs.Orders.{ordered}
+use Rattle.arith.specs.Limit.{limit}
+use Rattle.values.specs.Values.{limitedWord, storeLevel, unit, phaseAt, offsetAt, coefficient, valueSum, levelValue, value}
+use Rattle.points.specs.Points.{point}
+use Rattle.player.specs.Outputs.{push, pushTwo, nextVoice, voiceAfter, outputs}
+use Rattle.decimation.specs.Decimation.{outputSum, output}
+use Rattle.refusals.specs.Refusals.{glideCountWrong, outputCountWrong, positionWrong, levelsWrong, fadeWrong, rateWrong, glideWrong, historyWrong, lateNumber, openNumber, orderInputNumber, orderNumber, seekNumber, playStateNumber, playNumber, pointBound}
+use Rattle.player.specs.Calls.{zeroVoice, freshVoice, openAnswer, orderAnswer, seekAnswer, Played, playAnswer}
 
 -- book K with another F, h[0] and g[0]
 abbrev pub bookWith : ℕ → ℕ → ℕ → List ℤ
@@ -147,7 +151,7 @@ starredCases = caseA ∷ caseB ∷ caseC ∷ caseD ∷ caseE ∷ caseF₁ ∷ ca
 
 -- each case is as stated
 pub starred : map (λ c. c .found) starredCases ≡ map (λ c. c .stated) starredCases
-unfolding starredCases caseA caseB caseC caseD caseE caseF₁ caseF₂ caseG₁ caseG₂ caseH caseI caseJ floorDiv near wordAt tabulate sum total sumAround eqZ every refuse _otherwise_ sizesOf differencesAt levelTapsAt decimationTapsAt bookLength impulseWord impulse difference levelTaps decimationTaps powerOfTwo sizesInRange wordsInRange coefficientsInRange differencesRight phaseSum tapSum sumsInRange bookNumber halfLength levelLength levelStart storeLength samplesInRange topInRange firstLevel levelSum levelWord nextLevel levelOf levelsOf storeNumber buildAnswer ofBits rateInRange rateOf askedLevel advance freshControl jumped gliding sought glideRate rampAfter moveGlide fadeTarget pointPlan fadeAfter movePoint moveOutput limit limitedWord storeLevel unit phaseAt offsetAt coefficient valueSum levelValue value point push pushTwo outputSum output nextVoice voiceAfter outputs glideCountWrong outputCountWrong positionWrong levelsWrong fadeWrong rateWrong glideWrong historyWrong lateNumber openNumber orderInputNumber orderNumber seekNumber playStateNumber playNumber zeroVoice freshVoice openAnswer ordered orderAnswer seekAnswer playAnswer
+unfolding starredCases caseA caseB caseC caseD caseE caseF₁ caseF₂ caseG₁ caseG₂ caseH caseI caseJ floorDiv near wordAt tabulate sum total sumAround eqZ every refuse _otherwise_ sizesOf differencesAt levelTapsAt decimationTapsAt bookLength impulseWord impulse difference levelTaps decimationTaps powerOfTwo sizesInRange wordsInRange coefficientsInRange differencesRight phaseSum tapSum sumsInRange bookNumber halfLength levelLength levelStart storeLength samplesInRange topInRange firstLevel levelSum levelWord nextLevel levelOf levelsOf storeNumber buildAnswer ofBits rateInRange rateOf askedLevel advance freshControl jumped gliding sought glideRate glideAfter moveGlide fadeTarget pointPlan fadeAfter movePoint moveOutput limit limitedWord storeLevel unit phaseAt offsetAt coefficient valueSum levelValue value point push pushTwo outputSum output nextVoice voiceAfter outputs glideCountWrong outputCountWrong positionWrong levelsWrong fadeWrong rateWrong glideWrong historyWrong lateNumber openNumber orderInputNumber orderNumber seekNumber playStateNumber playNumber zeroVoice freshVoice openAnswer ordered orderAnswer seekAnswer playAnswer
 starred = refl
 
 -- ---- a play of more outputs than a program here can lend: 1048577 is refused 11, after 17; 1048576 is accepted
@@ -163,5 +167,5 @@ longPlays =
     }
 
 pub long-plays : longPlays .found ≡ longPlays .stated
-unfolding longPlays floorDiv near wordAt tabulate sum total sumAround eqZ every refuse _otherwise_ sizesOf differencesAt levelTapsAt decimationTapsAt bookLength impulseWord impulse difference levelTaps decimationTaps powerOfTwo sizesInRange wordsInRange coefficientsInRange differencesRight phaseSum tapSum sumsInRange bookNumber halfLength levelLength levelStart storeLength samplesInRange topInRange firstLevel levelSum levelWord nextLevel levelOf levelsOf storeNumber buildAnswer ofBits rateInRange rateOf askedLevel advance freshControl jumped gliding sought glideRate rampAfter moveGlide fadeTarget pointPlan fadeAfter movePoint moveOutput limit limitedWord storeLevel unit phaseAt offsetAt coefficient valueSum levelValue value point push pushTwo outputSum output nextVoice voiceAfter outputs glideCountWrong outputCountWrong positionWrong levelsWrong fadeWrong rateWrong glideWrong historyWrong lateNumber openNumber orderInputNumber orderNumber seekNumber playStateNumber playNumber zeroVoice freshVoice openAnswer ordered orderAnswer seekAnswer playAnswer
+unfolding longPlays floorDiv near wordAt tabulate sum total sumAround eqZ every refuse _otherwise_ sizesOf differencesAt levelTapsAt decimationTapsAt bookLength impulseWord impulse difference levelTaps decimationTaps powerOfTwo sizesInRange wordsInRange coefficientsInRange differencesRight phaseSum tapSum sumsInRange bookNumber halfLength levelLength levelStart storeLength samplesInRange topInRange firstLevel levelSum levelWord nextLevel levelOf levelsOf storeNumber buildAnswer ofBits rateInRange rateOf askedLevel advance freshControl jumped gliding sought glideRate glideAfter moveGlide fadeTarget pointPlan fadeAfter movePoint moveOutput limit limitedWord storeLevel unit phaseAt offsetAt coefficient valueSum levelValue value point push pushTwo outputSum output nextVoice voiceAfter outputs glideCountWrong outputCountWrong positionWrong levelsWrong fadeWrong rateWrong glideWrong historyWrong lateNumber openNumber orderInputNumber orderNumber seekNumber playStateNumber playNumber zeroVoice freshVoice openAnswer ordered orderAnswer seekAnswer playAnswer
 long-plays = refl

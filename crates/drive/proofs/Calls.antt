@@ -8,10 +8,11 @@ use lib.Dec.{eqb}
 use lib.IntN.{ℤ}
 use lib.ListN.{length}
 use Rattle.player.specs.declared.Voice.{Voice}
-use Rattle.player.specs.declared.Order.{Order}
-use Rattle.player.specs.Moves.{sought}
+use Rattle.control.specs.declared.Order.{Order}
+use Rattle.control.specs.Moves.{sought}
+use Rattle.control.specs.Orders.{ordered}
 use Rattle.player.specs.Outputs.{voiceAfter, outputs}
-use Rattle.player.specs.Calls.{ordered, orderAnswer, seekAnswer, playAnswer}
+use Rattle.player.specs.Calls.{orderAnswer, seekAnswer, playAnswer}
 use Rattle.drive.specs.Exact.{ExactVoice, exactOutputs}
 use Rattle.drive.specs.Lists.{Call, order, seek, play, callNumber, callVoice, callSamples, exactCallNumber, exactAccepted, exactCallVoice, exactCallSums}
 

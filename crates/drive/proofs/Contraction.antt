@@ -7,7 +7,7 @@ use native.Mathlib.Nat.{mul-le-mul-right}
 use lib.IntN.{ℤ, pos, natAbs, _-ℤ_, _*ℤ_, *ℤ-comm}
 use lib.Signed.{ltZ, _≤ℤ_}
 use Rattle.arith.proofs.Linear.{linear}
-use Rattle.values.specs.Values.{limit}
+use Rattle.arith.specs.Limit.{limit}
 
 -- scaling both sides does not change a test
 scaled-test : (s : ℕ) (x y : ℤ) → 0 < s → ltZ (pos s *ℤ x) (pos s *ℤ y) ≡ ltZ x y

@@ -12,7 +12,8 @@ use lib.ListN.{length, length-append}
 use Rattle.arith.specs.Lists.{tabulate}
 use Rattle.arith.proofs.Lists.{tabulate-ext}
 use Rattle.player.specs.declared.Voice.{Voice}
-use Rattle.player.specs.Outputs.{output, voiceAfter, outputs}
+use Rattle.decimation.specs.Decimation.{output}
+use Rattle.player.specs.Outputs.{voiceAfter, outputs}
 use Rattle.player.proofs.Blocks.{length-outputs}
 use Rattle.player.proofs.Filled.{voiceAfter-+}
 use Rattle.drive.specs.Lists.{Call, order, seek, play, callNumber, callVoice, callSamples, endVoice, handedOut, Mark, isPlay, marks}

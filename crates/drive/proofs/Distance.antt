@@ -13,10 +13,10 @@ use Rattle.arith.specs.Floor.{near}
 use Rattle.arith.specs.Lists.{at, wordAt}
 use Rattle.arith.proofs.Linear.{abs-pos-*}
 use Rattle.book.specs.Book.{sizesOf, levelTaps}
-use Rattle.player.specs.declared.Plan.{Plan}
+use Rattle.control.specs.declared.Plan.{Plan}
 use Rattle.values.specs.Values.{unit, limitedWord, storeLevel, valueSum, levelValue, value}
-use Rattle.player.specs.Points.{point}
-use Rattle.player.specs.Outputs.{outputSum}
+use Rattle.points.specs.Points.{point}
+use Rattle.decimation.specs.Decimation.{outputSum}
 use Rattle.drive.specs.Demand.{CloseTo}
 use Rattle.drive.specs.Exact.{exactLevel, exactValue, exactPoint, pointScale, exactScale}
 use Rattle.drive.proofs.Scaled.{apart-times, apart-multiple, near-apart, fade-size, fade-close}

@@ -18,10 +18,12 @@ use Rattle.arith.proofs.Floor.{near-close}
 use Rattle.arith.proofs.Lists.{at-outside, wordAt-bound, length-tabulate, getD-tabulate}
 use Rattle.arith.proofs.Sum.{sumAround-ext, sumAround-abs-*, sumAround-linear}
 use Rattle.book.specs.Check.{tapSum}
-use Rattle.levels.specs.Sizes.{halfLength, levelLength}
-use Rattle.levels.specs.Levels.{levelSum, levelWord, levelOf}
-use Rattle.levels.proofs.Laws.{length-level, at-first, at-next}
-use Rattle.levels.proofs.Around.{around-bound}
+use Rattle.octave.specs.Octave.{halfLength, levelSum, levelWord}
+use Rattle.levels.specs.Sizes.{levelLength}
+use Rattle.levels.specs.Levels.{levelOf}
+use Rattle.levels.proofs.Laws.{length-level, at-first}
+use Rattle.octave.proofs.Octave.{at-next}
+use Rattle.book.proofs.Around.{around-bound}
 use Rattle.drive.specs.Exact.{exactLevel}
 
 -- ---- sums over taps

@@ -12,16 +12,16 @@ use lib.Seq.{getD-append-add}
 use Rattle.arith.specs.Lists.{at}
 use Rattle.arith.proofs.Lists.{length-tabulate, getD-tabulate}
 use Rattle.player.specs.declared.Voice.{Voice}
-use Rattle.player.specs.declared.Order.{Order}
-use Rattle.player.specs.Moves.{sought}
-use Rattle.player.specs.Outputs.{output, nextVoice, voiceAfter, outputs}
-use Rattle.player.specs.Calls.{ordered, orderAnswer, seekAnswer}
+use Rattle.control.specs.declared.Order.{Order}
+use Rattle.control.specs.Moves.{sought}
+use Rattle.control.specs.Orders.{ordered}
+use Rattle.decimation.specs.Decimation.{output}
+use Rattle.player.specs.Outputs.{nextVoice, voiceAfter, outputs}
+use Rattle.player.specs.Calls.{orderAnswer, seekAnswer}
 use Rattle.drive.specs.Exact.{ExactVoice, exactOutput, exactNext, exactAfter, exactOutputs}
-use Rattle.drive.specs.Lists.{Call, order, seek, play, callNumber, callVoice, callSamples, handedOut}
-use Rattle.drive.specs.Lists.{exactCallNumber, exactAccepted, exactCallVoice, exactCallSums, exactSums}
+use Rattle.drive.specs.Lists.{Call, order, seek, play, callNumber, callVoice, callSamples, handedOut, exactCallNumber, exactAccepted, exactCallVoice, exactCallSums, exactSums}
 use Rattle.drive.specs.Demand.{CloseTo, Close}
-use Rattle.drive.proofs.Calls.{refused-voice, refused-samples, played-voice, played-samples, ordered-voice, ordered-samples, sought-voice, sought-samples}
-use Rattle.drive.proofs.Calls.{exact-refused-voice, exact-refused-sums, exact-accepted-voice, exact-played-sums, exact-ordered-sums, exact-sought-sums}
+use Rattle.drive.proofs.Calls.{refused-voice, refused-samples, played-voice, played-samples, ordered-voice, ordered-samples, sought-voice, sought-samples, exact-refused-voice, exact-refused-sums, exact-accepted-voice, exact-played-sums, exact-ordered-sums, exact-sought-sums}
 
 -- ---- samples close to their sums
 

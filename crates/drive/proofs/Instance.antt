@@ -14,18 +14,22 @@ use Rattle.arith.specs.Tests.{eqZ, within, every}
 use Rattle.book.specs.Number.{refuse, _otherwise_}
 use Rattle.book.specs.Book.{sizesOf, differencesAt, levelTapsAt, decimationTapsAt, bookLength, impulseWord, impulse, difference, levelTaps, decimationTaps}
 use Rattle.book.specs.Check.{powerOfTwo, sizesInRange, wordsInRange, coefficientsInRange, differencesRight, phaseSum, tapSum, sumsInRange, bookNumber}
-use Rattle.levels.specs.Sizes.{halfLength, levelLength, levelStart, storeLength, samplesInRange, topInRange}
-use Rattle.levels.specs.Levels.{firstLevel, levelSum, levelWord, nextLevel, levelOf, levelsOf}
+use Rattle.octave.specs.Octave.{halfLength, levelSum, levelWord, nextLevel}
+use Rattle.levels.specs.Sizes.{levelLength, levelStart, storeLength, samplesInRange, topInRange}
+use Rattle.levels.specs.Levels.{firstLevel, levelOf, levelsOf}
 use Rattle.levels.specs.Build.{storeNumber}
-use Rattle.player.specs.declared.Card.{Card}
-use Rattle.player.specs.declared.Order.the-variants.{Jump}
-use Rattle.player.specs.Rate.{rateInRange, rateOf, askedLevel, advance}
-use Rattle.player.specs.Moves.{freshControl, jumped, sought, rampAfter, moveGlide, fadeTarget, pointPlan, fadeAfter, movePoint, moveOutput}
-use Rattle.values.specs.Values.{limit, limitedWord, storeLevel, unit, phaseAt, offsetAt, coefficient, valueSum, levelValue, value}
-use Rattle.player.specs.Points.{point}
-use Rattle.player.specs.Outputs.{push, pushTwo, outputSum, output, nextVoice, voiceAfter, outputs}
-use Rattle.player.specs.Refusals.{outputCountWrong, positionWrong, levelsWrong, fadeWrong, rateWrong, glideWrong, historyWrong, lateNumber, openNumber, orderInputNumber, orderNumber, seekNumber, playStateNumber, playNumber}
-use Rattle.player.specs.Calls.{zeroVoice, freshVoice, openAnswer, ordered, orderAnswer, seekAnswer, playAnswer}
+use Rattle.control.specs.declared.Card.{Card}
+use Rattle.control.specs.declared.Order.the-variants.{Jump}
+use Rattle.control.specs.Rate.{rateInRange, rateOf, askedLevel, advance}
+use Rattle.control.specs.Moves.{freshControl, jumped, sought, glideAfter, moveGlide, fadeTarget, pointPlan, fadeAfter, movePoint, moveOutput}
+use Rattle.control.specs.Orders.{ordered}
+use Rattle.arith.specs.Limit.{limit}
+use Rattle.values.specs.Values.{limitedWord, storeLevel, unit, phaseAt, offsetAt, coefficient, valueSum, levelValue, value}
+use Rattle.points.specs.Points.{point}
+use Rattle.player.specs.Outputs.{push, pushTwo, nextVoice, voiceAfter, outputs}
+use Rattle.decimation.specs.Decimation.{outputSum, output}
+use Rattle.refusals.specs.Refusals.{outputCountWrong, positionWrong, levelsWrong, fadeWrong, rateWrong, glideWrong, historyWrong, lateNumber, openNumber, orderInputNumber, orderNumber, seekNumber, playStateNumber, playNumber}
+use Rattle.player.specs.Calls.{zeroVoice, freshVoice, openAnswer, orderAnswer, seekAnswer, playAnswer}
 use Rattle.drive.specs.Exact.{exactScale, exactFresh}
 use Rattle.drive.specs.Lists.{Call, order, seek, play, callVoice, callSamples, handedOut, exactSums}
 use Rattle.drive.specs.Demand.{Setting, storeOf, Close}
@@ -65,5 +69,5 @@ conclusion = demand3 book recording (pos 9 ∷ negsuc 8 ∷ pos 9 ∷ []) card s
 
 -- and the samples that it speaks of
 pub handed-out : handedOut book store 3 (openAnswer card .voice) calls ≡ pos 500 ∷ pos 1500 ∷ pos 1000 ∷ pos 0 ∷ pos 500 ∷ []
-unfolding floorDiv near wordAt tabulate sum total sumAround eqZ every refuse _otherwise_ sizesOf differencesAt levelTapsAt decimationTapsAt bookLength impulseWord impulse difference levelTaps decimationTaps powerOfTwo sizesInRange wordsInRange coefficientsInRange differencesRight phaseSum tapSum sumsInRange bookNumber halfLength levelLength levelStart storeLength samplesInRange topInRange firstLevel levelSum levelWord nextLevel levelOf levelsOf storeNumber ofBits rateInRange rateOf askedLevel advance freshControl jumped sought rampAfter moveGlide fadeTarget pointPlan fadeAfter movePoint moveOutput limit limitedWord storeLevel unit phaseAt offsetAt coefficient valueSum levelValue value point push pushTwo outputSum output nextVoice voiceAfter outputs outputCountWrong positionWrong levelsWrong fadeWrong rateWrong glideWrong historyWrong lateNumber openNumber orderInputNumber orderNumber seekNumber playStateNumber playNumber zeroVoice freshVoice openAnswer ordered orderAnswer seekAnswer playAnswer callVoice callSamples handedOut
+unfolding floorDiv near wordAt tabulate sum total sumAround eqZ every refuse _otherwise_ sizesOf differencesAt levelTapsAt decimationTapsAt bookLength impulseWord impulse difference levelTaps decimationTaps powerOfTwo sizesInRange wordsInRange coefficientsInRange differencesRight phaseSum tapSum sumsInRange bookNumber halfLength levelLength levelStart storeLength samplesInRange topInRange firstLevel levelSum levelWord nextLevel levelOf levelsOf storeNumber ofBits rateInRange rateOf askedLevel advance freshControl jumped sought glideAfter moveGlide fadeTarget pointPlan fadeAfter movePoint moveOutput limit limitedWord storeLevel unit phaseAt offsetAt coefficient valueSum levelValue value point push pushTwo outputSum output nextVoice voiceAfter outputs outputCountWrong positionWrong levelsWrong fadeWrong rateWrong glideWrong historyWrong lateNumber openNumber orderInputNumber orderNumber seekNumber playStateNumber playNumber zeroVoice freshVoice openAnswer ordered orderAnswer seekAnswer playAnswer callVoice callSamples handedOut
 handed-out = refl

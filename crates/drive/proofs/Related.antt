@@ -25,22 +25,28 @@ use Rattle.levels.specs.Sizes.{storeLength, topInRange}
 use Rattle.levels.specs.Levels.{levelOf, levelsOf}
 use Rattle.levels.specs.Build.{storeNumber}
 use Rattle.levels.proofs.Laws.{length-levels, level-bound, level-begins}
-use Rattle.player.specs.declared.Card.{Card}
-use Rattle.player.specs.declared.Control.{Control}
+use Rattle.control.specs.declared.Card.{Card}
+use Rattle.control.specs.declared.Control.{Control}
 use Rattle.player.specs.declared.Voice.{Voice}
-use Rattle.player.specs.Moves.{freshControl, sought, moveGlide, pointPlan, movePoint, moveOutput}
-use Rattle.values.specs.Values.{limit, limitedWord, storeLevel}
-use Rattle.player.specs.Points.{point}
-use Rattle.player.specs.Outputs.{pushTwo, outputSum, output, nextVoice}
-use Rattle.player.specs.declared.Order.{Order}
-use Rattle.player.specs.Refusals.{orderNumber, seekNumber, playStateNumber, playNumber}
-use Rattle.player.specs.Calls.{silence, pointBound, freshVoice, ordered, orderAnswer, seekAnswer, playAnswer}
-use Rattle.player.proofs.Histories.{outputSum-apart, pushTwo-all, pushTwo-both}
-use Rattle.player.proofs.Kept.{open-top, fresh-sound, ordered-sound, ordered-top, sought-sound, sought-top, moveGlide-top, moveGlide-sound, movePoint-top, movePoint-sound, moveOutput-top, moveOutput-sound, plan-old, plan-new, plan-step}
-use Rattle.player.specs.Sound.{Sound}
-use Rattle.player.proofs.Sound.{play-number, order-number, seek-number}
-use Rattle.values.proofs.Values.{limit-inside, valueSum-apart, valueSum-bound}
-use Rattle.player.proofs.Fades.{point-bound}
+use Rattle.control.specs.Moves.{freshControl, sought, moveGlide, pointPlan, movePoint, moveOutput}
+use Rattle.control.specs.Orders.{ordered}
+use Rattle.arith.specs.Limit.{limit}
+use Rattle.values.specs.Values.{limitedWord, storeLevel}
+use Rattle.points.specs.Points.{point}
+use Rattle.player.specs.Outputs.{pushTwo, nextVoice}
+use Rattle.decimation.specs.Decimation.{outputSum, output}
+use Rattle.control.specs.declared.Order.{Order}
+use Rattle.refusals.specs.Refusals.{orderNumber, seekNumber, playStateNumber, playNumber, pointBound}
+use Rattle.player.specs.Calls.{silence, freshVoice, orderAnswer, seekAnswer, playAnswer}
+use Rattle.decimation.proofs.Sums.{outputSum-apart}
+use Rattle.player.proofs.Histories.{pushTwo-all, pushTwo-both}
+use Rattle.refusals.proofs.Accepted.{open-top, fresh-valid, ordered-valid, sought-valid, ordered-top, sought-top}
+use Rattle.control.proofs.Kept.{moveGlide-top, moveGlide-valid, movePoint-top, movePoint-valid, moveOutput-top, moveOutput-valid, plan-old, plan-new, plan-step}
+use Rattle.control.specs.Valid.{Valid}
+use Rattle.refusals.proofs.Valid.{play-number, order-number, seek-number}
+use Rattle.arith.proofs.Limit.{limit-inside}
+use Rattle.values.proofs.Values.{valueSum-apart, valueSum-bound}
+use Rattle.points.proofs.Points.{point-bound}
 use Rattle.drive.specs.Exact.{exactLevel, exactPoint, pointScale, exactScale, exactOutput, ExactVoice, exactFresh, exactNext}
 use Rattle.drive.specs.Lists.{Call, order, seek, play, callNumber, exactBound, exactCallNumber}
 use Rattle.drive.specs.Demand.{Setting, storeOf, CloseTo}
@@ -109,7 +115,7 @@ module _ (b samples rest : List ℤ) (card : Card) (setting : Setting b samples 
 
   pub record Related (v : Voice) (e : ExactVoice) : Type 0 where
     pub same : v .control ≡ e .control
-    pub sound : Sound F (v .control)
+    pub valid : Valid F (v .control)
     pub top : v .control .top ≡ T
     pub bounded : (k : ℕ) → natAbs (at (v .history) k) ≤ pointBound
     pub exact-bounded : (k : ℕ) → natAbs (at (e .points) k) ≤ exactBound b samples T
@@ -129,7 +135,7 @@ module _ (b samples rest : List ℤ) (card : Card) (setting : Setting b samples 
   unfolding freshVoice exactFresh freshControl
   fresh = record {
     same = refl;
-    sound = fresh-sound F card fade-low (setting .opening-accepted);
+    valid = fresh-valid F card fade-low (setting .opening-accepted);
     top = refl;
     bounded = λ k. rw (silent k) (omega arith);
     exact-bounded = λ k. rw (silent k) (omega arith);
@@ -139,7 +145,7 @@ module _ (b samples rest : List ℤ) (card : Card) (setting : Setting b samples 
   -- ---- an output
 
   -- the two plans of an output read levels up to T, at a weight up to F
-  module _ (c : Control) (s : Sound F c) (t : c .top ≡ T) where
+  module _ (c : Control) (s : Valid F c) (t : c .top ≡ T) where
     plan-close : 2 * natAbs (pos (pointScale b T) *ℤ point b store S (pointPlan c) -ℤ exactPoint b samples T (pointPlan c)) ≤ pointScale b T * (2 ^ (T + 2) - 2)
     plan-close =
         point-close b samples store S T top-high (valueSum-apart b right) words-close fade-low (pointPlan c)
@@ -159,14 +165,14 @@ module _ (b samples rest : List ℤ) (card : Card) (setting : Setting b samples 
       let c = v .control in
       let c₁ = moveGlide c in
       let c₂ = movePoint F c₁ in
-      let s₁ = moveGlide-sound (r .sound) in
-      let s₂ = movePoint-sound s₁ in
+      let s₁ = moveGlide-valid (r .valid) in
+      let s₂ = movePoint-valid s₁ in
       let t₁ = moveGlide-top c ∙ r .top in
       let t₂ = movePoint-top F c₁ ∙ t₁ in
       let exact-history : pushTwo (exactPoint b samples T) F c (e .points) ≡ pushTwo (exactPoint b samples T) F (e .control) (e .points) = ap (λ d. pushTwo (exactPoint b samples T) F d (e .points)) (r .same) in
       record {
         same = ap (moveOutput F) (r .same);
-        sound = moveOutput-sound (r .sound);
+        valid = moveOutput-valid (r .valid);
         top = moveOutput-top F c ∙ r .top;
         bounded = pushTwo-all (λ x. natAbs x ≤ pointBound) (point b store S) F c (v .history) (omega arith) (plan-bound c₁ s₁ t₁) (plan-bound c₂ s₂ t₂) (r .bounded);
         exact-bounded = rw (← exact-history) (pushTwo-all (λ x. natAbs x ≤ exactBound b samples T) (exactPoint b samples T) F c (e .points) (omega arith) (plan-exact-bound c₁ s₁ t₁) (plan-exact-bound c₂ s₂ t₂) (r .exact-bounded));
@@ -197,18 +203,18 @@ module _ (b samples rest : List ℤ) (card : Card) (setting : Setting b samples 
   pub number-same : (v : Voice) (e : ExactVoice) (c : Call) → Related v e → callNumber b store S v c ≡ exactCallNumber b samples T e c
   unfolding callNumber exactCallNumber orderAnswer seekAnswer playAnswer playNumber
   number-same v e (order o) r =
-      let here = order-number (r .sound) pointBound (v .history) (λ k h. r .bounded k) o in
-      let there = order-number (r .sound) (exactBound b samples T) (e .points) (λ k h. r .exact-bounded k) o in
+      let here = order-number (r .valid) pointBound (v .history) (λ k h. r .bounded k) o in
+      let there = order-number (r .valid) (exactBound b samples T) (e .points) (λ k h. r .exact-bounded k) o in
       here ∙ sym there ∙ ap (λ c. orderNumber c (exactBound b samples T) (e .points) o) (r .same)
   number-same v e (seek P) r =
-      let here = seek-number (r .sound) pointBound (v .history) (λ k h. r .bounded k) P in
-      let there = seek-number (r .sound) (exactBound b samples T) (e .points) (λ k h. r .exact-bounded k) P in
+      let here = seek-number (r .valid) pointBound (v .history) (λ k h. r .bounded k) P in
+      let there = seek-number (r .valid) (exactBound b samples T) (e .points) (λ k h. r .exact-bounded k) P in
       here ∙ sym there ∙ ap (λ c. seekNumber c (exactBound b samples T) (e .points) P) (r .same)
   number-same v e (play words) r =
       let n = length words in
       let fits : storeNumber b S (v .control .top) (length store) ≡ 0 = ap (λ t. storeNumber b S t (length store)) (r .top) ∙ store-fits in
-      let here = play-number (r .sound) pointBound (v .history) (λ k h. r .bounded k) n in
-      let there = play-number (r .sound) (exactBound b samples T) (e .points) (λ k h. r .exact-bounded k) n in
+      let here = play-number (r .valid) pointBound (v .history) (λ k h. r .bounded k) n in
+      let there = play-number (r .valid) (exactBound b samples T) (e .points) (λ k h. r .exact-bounded k) n in
       ap (λ m. m otherwise playStateNumber F (v .control) pointBound (v .history) n) fits ∙ zero-otherwise (playStateNumber F (v .control) pointBound (v .history) n)
       ∙ here ∙ sym there ∙ ap (λ c. playStateNumber F c (exactBound b samples T) (e .points) n) (r .same)
 
@@ -217,7 +223,7 @@ module _ (b samples rest : List ℤ) (card : Card) (setting : Setting b samples 
   unfolding orderAnswer
   order-kept v e o r accepted = record {
     same = ap (λ c. ordered c o) (r .same);
-    sound = ordered-sound (r .sound) o (sym (order-number (r .sound) pointBound (v .history) (λ k h. r .bounded k) o) ∙ accepted);
+    valid = ordered-valid (r .valid) o (sym (order-number (r .valid) pointBound (v .history) (λ k h. r .bounded k) o) ∙ accepted);
     top = ordered-top (v .control) o ∙ r .top;
     bounded = r .bounded;
     exact-bounded = r .exact-bounded;
@@ -229,7 +235,7 @@ module _ (b samples rest : List ℤ) (card : Card) (setting : Setting b samples 
   unfolding seekAnswer
   seek-kept v e P r accepted = record {
     same = ap (λ c. sought c P) (r .same);
-    sound = sought-sound (r .sound) P (sym (seek-number (r .sound) pointBound (v .history) (λ k h. r .bounded k) P) ∙ accepted);
+    valid = sought-valid (r .valid) P (sym (seek-number (r .valid) pointBound (v .history) (λ k h. r .bounded k) P) ∙ accepted);
     top = sought-top (v .control) P ∙ r .top;
     bounded = r .bounded;
     exact-bounded = r .exact-bounded;

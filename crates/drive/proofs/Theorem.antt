@@ -2,9 +2,9 @@
 use mathlib.Core.List.{List}
 use lib.ListN.{length}
 use lib.IntN.{ℤ}
-use Rattle.player.specs.declared.Card.{Card}
+use Rattle.control.specs.declared.Card.{Card}
 use Rattle.player.specs.Calls.{openAnswer}
-use Rattle.player.proofs.Kept.{open-accepted}
+use Rattle.player.proofs.Opened.{open-accepted}
 use Rattle.drive.specs.Exact.{exactScale, exactFresh}
 use Rattle.drive.specs.Demand.{Setting, storeOf, Demand3}
 use Rattle.drive.proofs.Related.{Related, fresh, step, output-close, number-same, order-kept, seek-kept}

@@ -11,8 +11,8 @@ use Rattle.book.specs.Book.{levelTaps}
 use Rattle.book.specs.Check.{bookNumber}
 use Rattle.levels.specs.Sizes.{samplesInRange}
 use Rattle.levels.specs.Levels.{levelsOf}
-use Rattle.player.specs.declared.Card.{Card}
-use Rattle.player.specs.Refusals.{openNumber}
+use Rattle.control.specs.declared.Card.{Card}
+use Rattle.refusals.specs.Refusals.{openNumber}
 use Rattle.player.specs.Calls.{openAnswer}
 use Rattle.drive.specs.Exact.{exactScale, exactFresh}
 use Rattle.drive.specs.Lists.{Call, endVoice, handedOut, exactSums, marks}

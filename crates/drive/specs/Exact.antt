@@ -12,15 +12,16 @@ use lib.IntN.{ℤ, pos, negsuc, _+ℤ_, _*ℤ_}
 use lib.ListN.{length}
 use Rattle.arith.specs.Lists.{wordAt, tabulate}
 use Rattle.book.specs.Book.{sizesOf, levelTaps}
-use Rattle.levels.specs.Sizes.{halfLength}
-use Rattle.levels.specs.Levels.{levelSum}
-use Rattle.player.specs.declared.Card.{Card}
-use Rattle.player.specs.declared.Control.{Control}
-use Rattle.player.specs.Rate.{rateOf}
-use Rattle.player.specs.declared.Plan.{Plan}
-use Rattle.player.specs.Moves.{freshControl, moveOutput}
-use Rattle.values.specs.Values.{limit, valueSum}
-use Rattle.player.specs.Outputs.{pushTwo, outputSum}
+use Rattle.octave.specs.Octave.{halfLength, levelSum}
+use Rattle.control.specs.declared.Card.{Card}
+use Rattle.control.specs.declared.Control.{Control}
+use Rattle.control.specs.Rate.{rateOf}
+use Rattle.control.specs.declared.Plan.{Plan}
+use Rattle.control.specs.Moves.{freshControl, moveOutput}
+use Rattle.arith.specs.Limit.{limit}
+use Rattle.values.specs.Values.{valueSum}
+use Rattle.player.specs.Outputs.{pushTwo}
+use Rattle.decimation.specs.Decimation.{outputSum}
 use Rattle.player.specs.Calls.{silence}
 
 -- the levels of a recording, every word without near

@@ -8,10 +8,11 @@ use lib.IntN.{ℤ}
 use lib.ListN.{length}
 use Rattle.book.specs.Book.{sizesOf}
 use Rattle.player.specs.declared.Voice.{Voice}
-use Rattle.player.specs.declared.Order.{Order}
-use Rattle.player.specs.Moves.{sought}
-use Rattle.player.specs.Refusals.{orderNumber, seekNumber, playStateNumber}
-use Rattle.player.specs.Calls.{ordered, orderAnswer, seekAnswer, playAnswer}
+use Rattle.control.specs.declared.Order.{Order}
+use Rattle.control.specs.Moves.{sought}
+use Rattle.control.specs.Orders.{ordered}
+use Rattle.refusals.specs.Refusals.{orderNumber, seekNumber, playStateNumber}
+use Rattle.player.specs.Calls.{orderAnswer, seekAnswer, playAnswer}
 use Rattle.drive.specs.Exact.{pointScale, ExactVoice, exactAfter, exactOutputs}
 
 -- a call with its arguments; a play has its output slice's words, of which only their count matters

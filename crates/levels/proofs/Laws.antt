@@ -13,21 +13,19 @@ use Rattle.arith.proofs.Linear.{abs-*}
 use Rattle.arith.proofs.Floor.{near-bound}
 use Rattle.arith.proofs.Lists.{at-outside, length-tabulate, getD-tabulate}
 use Rattle.book.specs.Check.{tapSum}
-use Rattle.levels.specs.Sizes.{halfLength, levelLength, levelStart, storeLength}
-use Rattle.levels.specs.Levels.{firstLevel, levelSum, levelWord, nextLevel, levelOf, levelsOf}
+use Rattle.octave.specs.Octave.{halfLength, levelSum, levelWord, nextLevel}
+use Rattle.levels.specs.Sizes.{levelLength, levelStart, storeLength}
+use Rattle.levels.specs.Levels.{firstLevel, levelOf, levelsOf}
+use Rattle.octave.proofs.Octave.{length-next, next-bound}
 use Rattle.levels.proofs.Lengths.{levelStart-zero, storeLength-is, storeLength-suc}
 use Rattle.arith.proofs.Parts.{part-middle, overwrite-behind}
-use Rattle.levels.proofs.Around.{around, around-bound}
+use Rattle.book.proofs.Around.{around, around-bound}
 
 -- ---- how long
 
 pub length-first : (x : List ℤ) → length (firstLevel x) ≡ length x
 unfolding firstLevel
 length-first x = length-map x (λ s. s *ℤ pos 256)
-
-pub length-next : (h level : List ℤ) → length (nextLevel h level) ≡ halfLength (length level)
-unfolding nextLevel
-length-next h level = length-tabulate (halfLength (length level)) (levelWord h level)
 
 pub length-level : (h x : List ℤ) (j : ℕ) → length (levelOf h x j) ≡ levelLength (length x) j
 unfolding levelOf levelLength
@@ -46,22 +44,7 @@ pub at-first : (x : List ℤ) (k : ℕ) → at (firstLevel x) k ≡ at x k *ℤ 
 unfolding firstLevel
 at-first x k = List·getD-map (λ s. s *ℤ pos 256) x k (pos 0)
 
-pub at-next : (h level : List ℤ) (k : ℕ) → k < halfLength (length level) → at (nextLevel h level) k ≡ levelWord h level k
-unfolding nextLevel
-at-next h level k l = getD-tabulate (halfLength (length level)) (levelWord h level) k (pos 0) l
-
 -- ---- how large
-
-pub word-bound : (h level : List ℤ) → tapSum h ≤ 32768 → (c : ℕ) → ((k : ℕ) → natAbs (at level k) ≤ c) → (n : ℕ) → natAbs (levelWord h level n) ≤ 2 * c
-unfolding levelWord levelSum
-word-bound h level small c bound n = near-bound (around h level (2 * n) (length h)) {b = 16384} (omega arith) (2 * c) (omega (arith, around-bound h level (2 * n) small c bound (length h) (le-refl (length h))))
-
-pub next-bound : (h level : List ℤ) → tapSum h ≤ 32768 → (c : ℕ) → ((k : ℕ) → natAbs (at level k) ≤ c) → (k : ℕ) → natAbs (at (nextLevel h level) k) ≤ 2 * c
-next-bound h level small c bound k = go (decLe (suc k) (halfLength (length level)))
-  where
-    go : Dec (k < halfLength (length level)) → natAbs (at (nextLevel h level) k) ≤ 2 * c
-    go (yes l) = rw (at-next h level k l) (word-bound h level small c bound k)
-    go (no l) = rw (at-outside (nextLevel h level) k (omega (arith, length-next h level))) (omega arith)
 
 pub level-bound : (h x : List ℤ) → tapSum h ≤ 32768 → ((k : ℕ) → natAbs (at x k) ≤ 2 ^ 15) → (j k : ℕ) → natAbs (at (levelOf h x j) k) ≤ 2 ^ (23 + j)
 unfolding levelOf

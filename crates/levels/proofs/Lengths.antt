@@ -6,25 +6,9 @@ use native.Mathlib.Numerals.{add-one}
 use native.Mathlib.Omega.{arith}
 use Rattle.arith.proofs.Sum.{total-more, total-≤, total-same, total-mono}
 use Rattle.arith.specs.Sum.{total}
-use Rattle.levels.specs.Sizes.{halfLength, levelLength, levelStart, storeLength}
-
--- as the code computes it
-pub halfLength-rest : (n : ℕ) → n - n / 2 ≡ halfLength n
-unfolding halfLength
-halfLength-rest n = omega arith
-
-pub halfLength-≤ : (n : ℕ) → halfLength n ≤ n
-unfolding halfLength
-halfLength-≤ n = omega arith
-
--- word 2k of a level lies in it where word k lies in the level above
-pub halfLength-inside : (n k : ℕ) → k < halfLength n → 2 * k < n
-unfolding halfLength
-halfLength-inside n k h = omega arith
-
-pub halfLength-holds : (n k : ℕ) → 2 * k < n → k < halfLength n
-unfolding halfLength
-halfLength-holds n k h = omega arith
+use Rattle.octave.specs.Octave.{halfLength}
+use Rattle.octave.proofs.Octave.{halfLength-≤}
+use Rattle.levels.specs.Sizes.{levelLength, levelStart, storeLength}
 
 pub levelLength-≤ : (S j : ℕ) → levelLength S j ≤ S
 unfolding levelLength

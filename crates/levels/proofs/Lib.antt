@@ -1,5 +1,3 @@
 pub mod Lengths
-pub mod Around
 pub mod Laws
-pub mod GroupSums
 pub mod Fitting

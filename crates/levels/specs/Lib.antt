@@ -1,4 +1,3 @@
 pub mod Sizes
 pub mod Levels
 pub mod Build
-pub mod Inner

@@ -1,12 +1,9 @@
 -- How long the octave levels of S samples are, and where each begins in a store (document 01, "Octave levels").
 use mathlib.Core.Bool.{Bool, _&&_}
-use Prim.Native.Nat.{ℕ, zero, suc, _+_, _/_}
+use Prim.Native.Nat.{ℕ, zero, suc}
 use lib.Dec.{leb}
 use Rattle.arith.specs.Sum.{total}
-
--- half of a length, rounded up
-unfoldable pub halfLength : ℕ → ℕ
-halfLength n = (n + 1) / 2
+use Rattle.octave.specs.Octave.{halfLength}
 
 -- words of level j
 unfoldable pub levelLength : ℕ → ℕ → ℕ

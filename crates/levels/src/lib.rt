@@ -3,11 +3,8 @@
 ghost use mathlib.Core.Path.{_≡_};
 ghost use Rattle.levels.specs.Build.{built, storeNumber, buildAnswer};
 
-mod groups; // several words of a level at a time
-pub mod halving; // a level from the one below it
 pub mod sizes; // lengths of levels and stores
 mod store; // all levels, one after another
-mod sums; // a sum around a word, tap by tap
 
 // 0 where a store of `words` words can hold levels 0..top of `samples` samples by this book, else the first of the numbers 1 to 9
 // whose condition holds.

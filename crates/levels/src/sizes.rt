@@ -3,14 +3,8 @@
 ghost use mathlib.Core.Path.{_≡_};
 ghost use Prim.Native.Nat.{ℕ, _≤_, _<_};
 ghost use lib.ListN.{getD};
-ghost use Rattle.levels.specs.Sizes.{halfLength, levelStart, storeLength};
-
-// Half of a length, rounded up.
-pub fn half_length(n: usize) -> usize
-    ensures { λ r. ⌜ r ≡ halfLength n ⌝ }
-{
-    n - n / 2
-}
+ghost use Rattle.levels.specs.Sizes.{levelStart, storeLength};
+use octave::half_length;
 
 // The words of levels 0..top.
 pub fn store_length(samples: usize, top: u32) -> usize

@@ -8,8 +8,8 @@ ghost use Rattle.arith.specs.Lists.{at, overwrite};
 ghost use Rattle.book.specs.Check.{tapSum};
 ghost use Rattle.levels.specs.Sizes.{storeLength};
 ghost use Rattle.levels.specs.Levels.{firstLevel, levelsOf};
-use crate::halving::next_level;
-use crate::sizes::half_length;
+use octave::half_length;
+use octave::next_level;
 
 // Level 0: sample × 256. Each sample that it reads lies in the range of an i16, which bounds the words of the levels above.
 fn first_level(samples: &[i16], store: &mut [i32])

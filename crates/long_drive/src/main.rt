@@ -1,8 +1,8 @@
 // A long drive: one million outputs of a hum through a book of N = 12, M = 64, B = 10, with jumps, glides and seeks between the blocks.
 // It prints a check number of all samples, and the last ones. It is also what the player's speed is read from.
 ghost use Prim.Native.Nat.{_≤_};
-use player::Card;
-use player::Order;
+use control::Card;
+use control::Order;
 use player::Voice;
 
 mod filter; // the book

@@ -16,54 +16,18 @@ use Rattle.arith.proofs.Lists.{at-outside, length-tabulate, getD-tabulate}
 use Rattle.arith.proofs.Sum.{sum-ext, sum-around}
 use Rattle.book.specs.Book.{sizesOf, decimationTaps}
 use Rattle.book.proofs.Accepted.{Accepted, decimationTaps-length}
-use Rattle.levels.specs.Sizes.{levelStart, storeLength}
-use Rattle.levels.proofs.Lengths.{storeLength-mono}
 use Rattle.player.specs.declared.Voice.{Voice}
-use Rattle.player.specs.declared.Control.{Control}
-use Rattle.player.specs.declared.Plan.{Plan}
-use Rattle.player.specs.Moves.{moveGlide, movePoint, pointPlan}
-use Rattle.player.specs.Outputs.{push, pushTwo, outputSum, output, nextVoice, voiceAfter, outputs}
-use Rattle.player.specs.Points.{point}
-use Rattle.player.specs.Sound.{Sound}
-use Rattle.player.proofs.Kept.{moveGlide-sound, movePoint-sound, moveOutput-sound, moveOutput-top, plan-old, plan-new, plan-step, plan-position}
+use Rattle.control.specs.declared.Control.{Control}
+use Rattle.control.specs.declared.Plan.{Plan}
+use Rattle.control.specs.Moves.{moveGlide, movePoint, pointPlan}
+use Rattle.player.specs.Outputs.{push, pushTwo, nextVoice, voiceAfter, outputs}
+use Rattle.decimation.specs.Decimation.{outputSum, output}
+use Rattle.points.specs.Points.{point}
+use Rattle.control.specs.Valid.{Valid}
+use Rattle.control.proofs.Kept.{moveGlide-valid, movePoint-valid, moveOutput-valid, moveOutput-top, plan-old, plan-new, plan-step, plan-position}
 use Rattle.player.proofs.Histories.{pushTwo-all}
-use Rattle.player.proofs.Sound.{Within}
-use Rattle.player.proofs.Fades.{point-bound}
-
--- ---- the sum of an output, around the middle point that it reads
-
-pub outputSum-around : (b h g : List ℤ) → Accepted b → g ≡ decimationTaps b
-    → sumAround (pred (length g)) (λ k. at g (natAbs k) *ℤ wordAt h (pos (length g - 1) +ℤ k)) ≡ outputSum b h
-unfolding outputSum wordAt
-outputSum-around b h g a e =
-    let B = sizesOf b .decimation in
-    let count : length g ≡ B + 1 = ap length e ∙ decimationTaps-length b a in
-    let half : pred (length g) ≡ B = omega arith in
-    let middle : length g - 1 ≡ B = omega arith in
-    rw (half, middle, ← e)
-    (sym (sum-around B (λ k. at g (natAbs k) *ℤ wordAt h (pos B +ℤ k)))
-    ∙ sum-ext (2 * B + 1) (λ k l. ap (λ i. at g (natAbs (pos k -ℤ pos B)) *ℤ wordAt h i) (back B k)))
-  where
-    back : (m k : ℕ) → pos m +ℤ (pos k -ℤ pos m) ≡ pos k
-    back m k = simp linear (omega arith)
-
--- ---- what a point reads, of a store that has room for the levels up to the voice's T
-
-pub start-mono : (S : ℕ) {l T : ℕ} → l ≤ T → levelStart S (l + 1) ≤ levelStart S (T + 1)
-unfolding storeLength
-start-mono S {l} {T} h = rw (add-one l, add-one T) (storeLength-mono S h)
-
-pub plan-read : {F : ℕ} {c : Control} → Sound F c → (S words : ℕ) → levelStart S (c .top + 1) ≤ words → (p : Plan) → p ≡ pointPlan c
-    → (p .old ≤ 4) × (p .new ≤ 4) × (p .step ≤ F) × (p .position ≤ 2 ^ 60) × (levelStart S (p .old + 1) ≤ words) × (levelStart S (p .new + 1) ≤ words)
-plan-read {F} {c} s S words room p e =
-    rw e (
-      omega (arith, plan-old s, s .top-high),
-      omega (arith, plan-new s, s .top-high),
-      plan-step s,
-      plan-position s,
-      le-trans (start-mono S (plan-old s)) room,
-      le-trans (start-mono S (plan-new s)) room,
-    )
+use Rattle.refusals.proofs.Valid.{Within}
+use Rattle.points.proofs.Points.{point-small}
 
 -- ---- the history after an output
 
@@ -84,18 +48,14 @@ words-within bound h w k = go (decLt k 81)
     go (no l) = rw (at-outside (take 81 h) k (simp length-take (omega arith))) (omega arith)
 
 module _ (b store : List ℤ) (S : ℕ) where
-  -- a sound control's point
-  pub point-small : Accepted b → {c : Control} → Sound (sizesOf b .fade) c → natAbs (point b store S (pointPlan c)) ≤ 2 ^ 29
-  point-small a {c} s = point-bound b a store S (pointPlan c) (omega (arith, plan-old s, s .top-high)) (omega (arith, plan-new s, s .top-high)) (plan-step s)
-
-  next-small : Accepted b → (v : Voice) → Sound (sizesOf b .fade) (v .control) → Within (2 ^ 29) (v .history)
+  next-small : Accepted b → (v : Voice) → Valid (sizesOf b .fade) (v .control) → Within (2 ^ 29) (v .history)
       → (k : ℕ) → natAbs (at (nextVoice b store S v .history) k) ≤ 2 ^ 29
   unfolding nextVoice
   next-small a v s w k =
       let F = sizesOf b .fade in
-      let one = moveGlide-sound s in
+      let one = moveGlide-valid s in
       rw (first-words (point b store S) F (v .control) (v .history))
-      (pushTwo-all (λ x. natAbs x ≤ 2 ^ 29) (point b store S) F (v .control) (take 81 (v .history)) (omega arith) (point-small a one) (point-small a (movePoint-sound one)) (words-within (2 ^ 29) (v .history) w) k)
+      (pushTwo-all (λ x. natAbs x ≤ 2 ^ 29) (point b store S) F (v .control) (take 81 (v .history)) (omega arith) (point-small b store S a one) (point-small b store S a (movePoint-valid one)) (words-within (2 ^ 29) (v .history) w) k)
 
 -- ---- n outputs
 
@@ -105,21 +65,20 @@ module _ (b store : List ℤ) (S : ℕ) (v : Voice) where
   after-top zero = refl
   after-top (suc n) = moveOutput-top (sizesOf b .fade) (voiceAfter b store S v n .control) ∙ after-top n
 
-  after-sound : Sound (sizesOf b .fade) (v .control) → (n : ℕ) → Sound (sizesOf b .fade) (voiceAfter b store S v n .control)
+  after-valid : Valid (sizesOf b .fade) (v .control) → (n : ℕ) → Valid (sizesOf b .fade) (voiceAfter b store S v n .control)
   unfolding voiceAfter nextVoice
-  after-sound s zero = s
-  after-sound s (suc n) = moveOutput-sound (after-sound s n)
+  after-valid s zero = s
+  after-valid s (suc n) = moveOutput-valid (after-valid s n)
 
   -- as the next output asks for it
-  pub after-ready : (n : ℕ) {w : Voice} {F words : ℕ} → w ≡ voiceAfter b store S v n → F ≡ sizesOf b .fade → Sound (sizesOf b .fade) (v .control)
-      → levelStart S (v .control .top + 1) ≤ words → Sound F (w .control) × (levelStart S (w .control .top + 1) ≤ words)
-  after-ready n e f s room = rw (e, f, after-top n) (after-sound s n, room)
+  pub after-ready : (n : ℕ) → Valid (sizesOf b .fade) (v .control) → Valid (sizesOf b .fade) (voiceAfter b store S v n .control) × (voiceAfter b store S v n .control .top ≡ v .control .top)
+  after-ready n s = (after-valid s n, after-top n)
 
-  module _ (a : Accepted b) (s : Sound (sizesOf b .fade) (v .control)) (w : Within (2 ^ 29) (v .history)) where
+  module _ (a : Accepted b) (s : Valid (sizesOf b .fade) (v .control)) (w : Within (2 ^ 29) (v .history)) where
     pub after-within : (n : ℕ) → Within (2 ^ 29) (voiceAfter b store S v n .history)
     unfolding voiceAfter
     after-within zero = w
-    after-within (suc n) = λ k l. next-small b store S a (voiceAfter b store S v n) (after-sound s n) (after-within n) k
+    after-within (suc n) = λ k l. next-small b store S a (voiceAfter b store S v n) (after-valid s n) (after-within n) k
 
   pub length-outputs : (n : ℕ) → length (outputs b store S v n) ≡ n
   unfolding outputs

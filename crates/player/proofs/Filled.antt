@@ -9,66 +9,32 @@ use lib.IntN.{ℤ, pos, natAbs}
 use lib.ListN.{length, take, drop, replicate, length-take, length-drop, length-replicate}
 use lib.Seq.{paste, length-paste, take-all, drop-at, drop-drop, drop-length, getD-take, getD-drop, length-take-le}
 use Rattle.arith.specs.Lists.{at, part, tabulate, overwrite}
-use Rattle.arith.proofs.Lists.{part-length, at-outside, paste-all}
-use Rattle.arith.proofs.Parts.{paste-part}
+use Rattle.arith.proofs.Lists.{part-length}
+use Rattle.arith.proofs.Parts.{paste-run, length-overwrite, drop-overwrite, overwrite-end, overwrite-every, take-every, drop-every, zeros-every}
 use Rattle.book.specs.Book.{sizesOf}
 use Rattle.book.proofs.Accepted.{Accepted}
-use Rattle.levels.specs.Sizes.{levelStart}
-use Rattle.player.specs.declared.Control.{Control}
-use Rattle.player.specs.declared.Plan.{Plan}
+use Rattle.control.specs.declared.Control.{Control}
+use Rattle.control.specs.declared.Plan.{Plan}
 use Rattle.player.specs.declared.Voice.{Voice}
-use Rattle.player.specs.Points.{point}
-use Rattle.player.specs.Sound.{Sound}
-use Rattle.player.specs.Outputs.{output, nextVoice, voiceAfter, outputs}
-use Rattle.player.specs.Inner.{controlAfter, runPoints, lineOf}
-use Rattle.player.proofs.Kept.{moveGlide-sound, movePoint-sound, moveOutput-sound}
+use Rattle.points.specs.Points.{point}
+use Rattle.control.specs.Valid.{Valid}
+use Rattle.decimation.specs.Decimation.{output}
+use Rattle.player.specs.Outputs.{nextVoice, voiceAfter, outputs}
+use Rattle.positions.specs.Runs.{controlAfter}
+use Rattle.points.specs.Runs.{runPoints}
+use Rattle.player.specs.Inner.{lineOf}
+use Rattle.control.proofs.Kept.{moveGlide-valid, movePoint-valid, moveOutput-valid}
 use Rattle.player.proofs.Histories.{length-pushTwo}
-use Rattle.player.proofs.Blocks.{point-small, after-ready, length-outputs, at-outputs}
-use Rattle.player.proofs.RunPoints.{control-after, history-after, length-run, run-all, run-drop, line-written}
-
--- ---- what holds of every word
-
-module _ (Q : ℤ → Type 0) (none : Q (pos 0)) where
-  append-all : (xs ys : List ℤ) → ((k : ℕ) → Q (at xs k)) → ((k : ℕ) → Q (at ys k)) → (k : ℕ) → Q (at (xs ++ ys) k)
-  append-all [] ys h g k = g k
-  append-all (x ∷ xs) ys h g zero = h 0
-  append-all (x ∷ xs) ys h g (suc k) = append-all xs ys (λ i. h (suc i)) g k
-
-  take-every : (n : ℕ) (xs : List ℤ) → ((k : ℕ) → Q (at xs k)) → (k : ℕ) → Q (at (take n xs) k)
-  take-every n xs h k = go (decLt k n)
-    where
-      go : Dec (k < n) → Q (at (take n xs) k)
-      go (yes l) = rw (getD-take n xs k (pos 0) l) (h k)
-      go (no l) = rw (at-outside (take n xs) k (simp length-take (omega arith))) none
-
-  drop-every : (n : ℕ) (xs : List ℤ) → ((k : ℕ) → Q (at xs k)) → (k : ℕ) → Q (at (drop n xs) k)
-  drop-every n xs h k = rw (getD-drop n xs k (pos 0)) (h (n + k))
-
-  pub overwrite-every : (xs ys : List ℤ) (a : ℕ) → ((k : ℕ) → Q (at xs k)) → ((k : ℕ) → Q (at ys k)) → (k : ℕ) → Q (at (overwrite xs a ys) k)
-  overwrite-every xs ys a h g = append-all (take a xs ++ ys) (drop (a + length ys) xs) (append-all (take a xs) ys (take-every a xs h) g) (drop-every (a + length ys) xs h)
-
-  zeros-every : (n k : ℕ) → Q (at (replicate n (pos 0)) k)
-  zeros-every zero k = none
-  zeros-every (suc n) zero = none
-  zeros-every (suc n) (suc k) = zeros-every n k
-
-  pub line-every : (h : List ℤ) → ((k : ℕ) → Q (at h k)) → (k : ℕ) → Q (at (lineOf h) k)
-  unfolding lineOf
-  line-every h g = overwrite-every (replicate 209 (pos 0)) h 128 (zeros-every 209) g
+use Rattle.points.proofs.Points.{point-small}
+use Rattle.player.proofs.Blocks.{after-ready, length-outputs, at-outputs}
+use Rattle.player.proofs.RunPoints.{control-after, history-after}
+use Rattle.points.proofs.RunPoints.{length-run, run-all, run-drop}
 
 -- ---- the line
 
-length-overwrite : (xs ys : List ℤ) (a : ℕ) → a + length ys ≤ length xs → length (overwrite xs a ys) ≡ length xs
-length-overwrite xs ys a h = ap length (sym (paste-all xs a ys (length ys) refl)) ∙ length-paste xs a ys (length ys) h (omega arith)
-
--- what is written up to the end is what lies there
-overwrite-end : (xs ys : List ℤ) (a : ℕ) → a + length ys ≡ length xs → drop a (overwrite xs a ys) ≡ ys
-overwrite-end xs ys a e =
-    ap (drop a) (append-assoc (take a xs) ys (drop (a + length ys) xs))
-    ∙ drop-at (take a xs) (ys ++ drop (a + length ys) xs) a (length-take-le a xs (omega arith))
-    ∙ ap (λ n. ys ++ drop n xs) e
-    ∙ ap (λ r. ys ++ r) (drop-length xs)
-    ∙ append-nil ys
+pub line-every : (Q : ℤ → Type 0) → Q (pos 0) → (h : List ℤ) → ((k : ℕ) → Q (at h k)) → (k : ℕ) → Q (at (lineOf h) k)
+unfolding lineOf
+line-every Q none h g = overwrite-every Q none (replicate 209 (pos 0)) h 128 (zeros-every Q none 209) g
 
 module _ (h : List ℤ) (l : length h ≡ 81) where
   pub length-line : length (lineOf h) ≡ 209
@@ -98,9 +64,10 @@ module _ (b store : List ℤ) (S : ℕ) (w : Voice) (l : length (w .history) ≡
       let n : ℕ = d + m in
       let r = length-run (point b store S) F (w .control) n in
       let e : 128 - 2 * n + 2 * d ≡ 128 - 2 * m = omega arith in
+      let front : 128 - 2 * n + length (run n) ≡ 128 = omega (arith, r) in
       sym (ap (λ k. drop k (written n)) e)
       ∙ sym (drop-drop (2 * d) (128 - 2 * n) (written n))
-      ∙ ap (drop (2 * d)) (line-written line (run n) (128 - 2 * n) (omega (arith, r)) (omega (arith, long)))
+      ∙ ap (drop (2 * d)) ((drop-overwrite line (run n) (128 - 2 * n) (omega (arith, long)) ∙ ap (λ k. run n ++ drop k line) front))
       ∙ ap (λ t. drop (2 * d) (run n ++ t)) kept
       ∙ run-drop (point b store S) F (w .control) m d (w .history)
 
@@ -113,11 +80,11 @@ module _ (b store : List ℤ) (S : ℕ) (w : Voice) (l : length (w .history) ≡
       length-overwrite line (run n) (128 - 2 * n) (omega (arith, r, long)) ∙ long
 
   -- every word of it is small
-  module _ (a : Accepted b) (s : Sound F (w .control)) (small : (k : ℕ) → natAbs (at line k) ≤ 2 ^ 29) where
-    control-sound : (n : ℕ) → Sound F (controlAfter F (w .control) n)
+  module _ (a : Accepted b) (s : Valid F (w .control)) (small : (k : ℕ) → natAbs (at line k) ≤ 2 ^ 29) where
+    control-valid : (n : ℕ) → Valid F (controlAfter F (w .control) n)
     unfolding controlAfter
-    control-sound zero = s
-    control-sound (suc n) = moveOutput-sound (control-sound n)
+    control-valid zero = s
+    control-valid (suc n) = moveOutput-valid (control-valid n)
 
     pub written-small : (n k : ℕ) → natAbs (at (written n) k) ≤ 2 ^ 29
     written-small n =
@@ -125,28 +92,10 @@ module _ (b store : List ℤ) (S : ℕ) (w : Voice) (l : length (w .history) ≡
         let Small : ℤ → Type 0 = λ x. natAbs x ≤ 2 ^ 29 in
         overwrite-every Small none line (run n) (128 - 2 * n) small
         (run-all (point b store S) F (w .control) Small n
-        (λ k h. let one = moveGlide-sound (control-sound k) in (point-small b store S a one, point-small b store S a (movePoint-sound one)))
+        (λ k h. let one = moveGlide-valid (control-valid k) in (point-small b store S a one, point-small b store S a (movePoint-valid one)))
         none)
 
 -- ---- a block
-
--- the words of a list, one by one
-tabulate-take : (zs : List ℤ) (n : ℕ) (f : ℕ → ℤ) → n ≤ length zs → ((k : ℕ) → k < n → f k ≡ at zs k) → tabulate n f ≡ take n zs
-unfolding tabulate
-tabulate-take zs zero f h g = refl
-tabulate-take [] (suc n) f h g = absurd (omega arith)
-tabulate-take (z ∷ zs) (suc n) f h g = ap₂ _∷_ (g 0 (omega arith)) (tabulate-take zs n (λ k. f (suc k)) (omega arith) (λ k l. g (suc k) (omega arith)))
-
-pub tabulate-part : (zs : List ℤ) (a n : ℕ) (f : ℕ → ℤ) → a + n ≤ length zs → ((k : ℕ) → k < n → f k ≡ at zs (a + k)) → tabulate n f ≡ part zs a n
-tabulate-part zs a n f h g = tabulate-take (drop a zs) n f (simp length-drop (omega arith)) (λ k l. g k l ∙ sym (getD-drop a zs k (pos 0)))
-
--- n words more of ys
-paste-run : (xs ys : List ℤ) (i n : ℕ) (f : ℕ → ℤ) → i + n ≤ length xs → i + n ≤ length ys → ((k : ℕ) → k < n → f k ≡ at ys (i + k))
-    → overwrite (paste xs 0 ys i) i (tabulate n f) ≡ paste xs 0 ys (i + n)
-paste-run xs ys i n f room h g =
-    let rest : tabulate n f ≡ part ys i n = tabulate-part ys i n f h g in
-    let e : i ≡ 0 + i = omega arith in
-    ap₂ (overwrite (paste xs 0 ys i)) e rest ∙ paste-part xs ys 0 i n (omega arith) h
 
 pub record Filled (b store : List ℤ) (S : ℕ) (v : Voice) (out₀ : List ℤ) (d : Control) (line out : List ℤ) (i : ℕ) : Type 0 where
   pub count : i ≤ length out₀
@@ -183,11 +132,11 @@ module _ {b store : List ℤ} {S : ℕ} {v : Voice} {out₀ : List ℤ} {d : Con
   line-is n e = e ∙ ap (λ c. overwrite line (128 - 2 * n) (runPoints make (sizesOf b .fade) c n)) (p .control)
 
   -- every word of it is small
-  pub run-small : Accepted b → Sound (sizesOf b .fade) (v .control) → {line₁ : List ℤ} (n : ℕ) → line₁ ≡ overwrite line (128 - 2 * n) (runPoints make (sizesOf b .fade) d n)
+  pub run-small : Accepted b → Valid (sizesOf b .fade) (v .control) → {line₁ : List ℤ} (n : ℕ) → line₁ ≡ overwrite line (128 - 2 * n) (runPoints make (sizesOf b .fade) d n)
       → (k : ℕ) → natAbs (at line₁ k) ≤ 2 ^ 29
   run-small a s n e k =
-      let sound = after-ready b store S v i {words = levelStart S (v .control .top + 1)} refl refl s (omega arith) .0 in
-      rw (line-is n e) (written-small b store S w w-length line (p .long) (p .points) a sound (p .small) n k)
+      let valid = after-ready b store S v i s .0 in
+      rw (line-is n e) (written-small b store S w w-length line (p .long) (p .points) a valid (p .small) n k)
 
   module _ (n : ℕ) (few : n ≤ 64) (room : i + n ≤ length out₀) {line₁ : List ℤ} (line-e : line₁ ≡ overwrite line (128 - 2 * n) (runPoints make (sizesOf b .fade) d n)) where
     -- the history after m of the run's outputs
@@ -241,9 +190,9 @@ pub filled-length : {b store : List ℤ} {S : ℕ} {v : Voice} {out₀ : List �
 filled-length {b} {store} {S} {v} {out₀} {i = i} p =
     ap length (p .words) ∙ length-paste out₀ 0 (outputs b store S v (length out₀)) i (omega (arith, p .count)) (omega (arith, p .count, length-outputs b store S v (length out₀)))
 
-pub filled-ready : {b store : List ℤ} {S : ℕ} {v : Voice} {out₀ : List ℤ} {d : Control} {line out : List ℤ} {i F words : ℕ} → Filled b store S v out₀ d line out i → F ≡ sizesOf b .fade
-    → Sound (sizesOf b .fade) (v .control) → levelStart S (v .control .top + 1) ≤ words → Sound F d × (levelStart S (d .top + 1) ≤ words)
-filled-ready {b} {store} {S} {v} {i = i} p f s room = rw (p .control) (after-ready b store S v i refl f s room)
+pub filled-ready : {b store : List ℤ} {S : ℕ} {v : Voice} {out₀ : List ℤ} {d : Control} {line out : List ℤ} {i : ℕ} → Filled b store S v out₀ d line out i
+    → Valid (sizesOf b .fade) (v .control) → Valid (sizesOf b .fade) d × (d .top ≡ v .control .top)
+filled-ready {b} {store} {S} {v} {i = i} p s = rw (p .control) (after-ready b store S v i s)
 
 -- ---- the voice at the end
 

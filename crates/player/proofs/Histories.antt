@@ -1,4 +1,4 @@
--- The laws of histories: how large an output's sum is, and which words a push leaves where. Assumes nothing.
+-- The laws of histories: which words a push leaves where. Assumes nothing.
 use mathlib.Core.Path.{_≡_, refl, ap, _∙_}
 use mathlib.Core.List.{List}
 use Prim.Native.Nat.{ℕ, zero, suc, _+_, _*_, _≤_, _<_, pred}
@@ -16,51 +16,11 @@ use Rattle.arith.proofs.Sum.{sum-ext, sum-abs-*, total-around, sum-linear}
 use Rattle.book.specs.Book.{sizesOf, decimationTaps}
 use Rattle.book.specs.Check.{tapSum}
 use Rattle.book.proofs.Accepted.{Accepted, decimationTaps-length, decimationTaps-sum}
-use Rattle.player.specs.declared.Control.{Control}
-use Rattle.player.specs.declared.Plan.{Plan}
-use Rattle.player.specs.Moves.{moveGlide, pointPlan, movePoint}
-use Rattle.player.specs.Outputs.{push, pushTwo, outputSum}
-
--- ---- the sum of an output
-
--- the weight of the k-th newest point
-abbrev weight : List ℤ → ℕ → ℤ
-weight b k = at (decimationTaps b) (natAbs (pos k -ℤ pos (sizesOf b .decimation)))
-
--- how many points an output reads
-abbrev reads : List ℤ → ℕ
-reads b = 2 * sizesOf b .decimation + 1
-
--- two sums are one, over the points taken together
-outputSum-linear : (b : List ℤ) (c d : ℤ) (h h′ : List ℤ)
-    → c *ℤ outputSum b h -ℤ d *ℤ outputSum b h′ ≡ sum (reads b) (λ k. weight b k *ℤ (c *ℤ at h k -ℤ d *ℤ at h′ k))
-unfolding outputSum
-outputSum-linear b c d h h′ =
-    sum-linear (reads b) c d (λ k. weight b k *ℤ at h k) (λ k. weight b k *ℤ at h′ k)
-    ∙ sum-ext (reads b) (λ k m. together (weight b k) (at h k) (at h′ k))
-  where
-    together : (z x y : ℤ) → c *ℤ (z *ℤ x) -ℤ d *ℤ (z *ℤ y) ≡ z *ℤ (c *ℤ x -ℤ d *ℤ y)
-    together z x y = simp products (simp terms (omega arith))
-
-module _ (b : List ℤ) (a : Accepted b) where
-  -- each decimation tap but the first is read twice
-  weights-sum : total (reads b) (λ k. natAbs (weight b k)) ≤ 32768
-  unfolding tapSum
-  weights-sum =
-      let g = decimationTaps b in
-      let B = sizesOf b .decimation in
-      let count : pred (length g) ≡ B = omega (arith, decimationTaps-length b a) in
-      let taps : natAbs (at g 0) + 2 * total B (λ k. natAbs (at g (suc k))) ≤ 32768 = rw count at (decimationTaps-sum b a) in
-      omega (arith, total-around B (λ k. natAbs (at g k)), taps)
-
-  -- of points of at most X
-  weighted-bound : (x : ℕ → ℤ) (X : ℕ) → ((k : ℕ) → natAbs (x k) ≤ X) → natAbs (sum (reads b) (λ k. weight b k *ℤ x k)) ≤ 32768 * X
-  weighted-bound x X h = le-trans (sum-abs-* (reads b) (weight b) x X (λ k m. h k)) (mul-le-mul-right X weights-sum)
-
-  -- of histories whose points are at most X apart
-  pub outputSum-apart : (c d : ℤ) (h h′ : List ℤ) (X : ℕ) → ((k : ℕ) → natAbs (c *ℤ at h k -ℤ d *ℤ at h′ k) ≤ X)
-      → natAbs (c *ℤ outputSum b h -ℤ d *ℤ outputSum b h′) ≤ 32768 * X
-  outputSum-apart c d h h′ X bound = rw (outputSum-linear b c d h h′) (weighted-bound (λ k. c *ℤ at h k -ℤ d *ℤ at h′ k) X bound)
+use Rattle.control.specs.declared.Control.{Control}
+use Rattle.control.specs.declared.Plan.{Plan}
+use Rattle.control.specs.Moves.{moveGlide, pointPlan, movePoint}
+use Rattle.player.specs.Outputs.{push, pushTwo}
+use Rattle.decimation.specs.Decimation.{outputSum}
 
 -- ---- one more point
 

@@ -1,13 +1,5 @@
-pub mod Rates
-pub mod Sound
-pub mod Kept
-pub mod Glides
 pub mod Histories
 pub mod Blocks
 pub mod RunPoints
-pub mod Steady
-pub mod Along
 pub mod Filled
-pub mod Written
-pub mod Lines
-pub mod Fades
+pub mod Opened

@@ -2,20 +2,19 @@
 -- came (opening: the zero record) and writes no output word.
 use mathlib.Core.Bool.{cond}
 use mathlib.Core.List.{List}
-use Prim.Native.Nat.{ℕ, _^_}
+use Prim.Native.Nat.{ℕ}
 use lib.Dec.{eqb}
 use lib.IntN.{ℤ, pos}
 use lib.ListN.{length, replicate}
-use Rattle.player.specs.declared.Card.{Card}
-use Rattle.player.specs.declared.Control.{Control}
+use Rattle.control.specs.declared.Card.{Card}
 use Rattle.player.specs.declared.Voice.{Voice}
-use Rattle.player.specs.declared.Order.{Order}
-use Rattle.player.specs.declared.Order.the-variants.{Jump, Glide}
+use Rattle.control.specs.declared.Order.{Order}
 use Rattle.player.specs.declared.Answer.{Answer}
-use Rattle.player.specs.Rate.{rateOf}
-use Rattle.player.specs.Moves.{noGlide, noFade, freshControl, jumped, gliding, sought}
+use Rattle.control.specs.Rate.{rateOf}
+use Rattle.control.specs.Moves.{noGlide, noFade, freshControl, sought}
+use Rattle.control.specs.Orders.{ordered}
 use Rattle.player.specs.Outputs.{voiceAfter, outputs}
-use Rattle.player.specs.Refusals.{openNumber, orderNumber, seekNumber, playNumber}
+use Rattle.refusals.specs.Refusals.{pointBound, openNumber, orderNumber, seekNumber, playNumber}
 
 abbrev pub answer : ℕ → Voice → Answer
 answer n v = record { number = n; voice = v }
@@ -23,10 +22,6 @@ answer n v = record { number = n; voice = v }
 -- 81 points of silence
 abbrev pub silence : List ℤ
 silence = replicate 81 (pos 0)
-
--- a history word lies within ±2^29
-abbrev pub pointBound : ℕ
-pointBound = 2 ^ 29
 
 unfoldable pub zeroVoice : Voice
 zeroVoice = record { control = record { top = 0; fade = noFade 0; rate = 0; glide = noGlide; position = 0 }; history = silence }
@@ -37,11 +32,6 @@ freshVoice card = record { control = freshControl (card .top) (rateOf (card .rat
 
 unfoldable pub openAnswer : Card → Answer
 openAnswer card = let n = openNumber card in answer n (cond (eqb n 0) (freshVoice card) zeroVoice)
-
--- the control that an order leaves
-unfoldable pub ordered : Control → Order → Control
-ordered c (Jump r) = jumped c (rateOf r)
-ordered c (Glide r count) = gliding c (rateOf r) count
 
 unfoldable pub orderAnswer : Voice → Order → Answer
 orderAnswer v o =

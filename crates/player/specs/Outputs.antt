@@ -1,18 +1,16 @@
--- Outputs (document 01, "One output"): the history, the decimation and blocks of outputs.
+-- Outputs (document 01, "One output"): the history and blocks of outputs.
 use mathlib.Core.List.{List, _∷_}
-use Prim.Native.Nat.{ℕ, zero, suc, _+_, _*_, _^_}
-use lib.IntN.{ℤ, pos, negsuc, natAbs, _-ℤ_, _*ℤ_}
+use Prim.Native.Nat.{ℕ, zero, suc}
+use lib.IntN.{ℤ}
 use lib.ListN.{take}
-use Rattle.arith.specs.Floor.{near}
-use Rattle.arith.specs.Lists.{at, tabulate}
-use Rattle.arith.specs.Sum.{sum}
-use Rattle.book.specs.Book.{sizesOf, decimationTaps}
-use Rattle.player.specs.declared.Control.{Control}
+use Rattle.arith.specs.Lists.{tabulate}
+use Rattle.book.specs.Book.{sizesOf}
+use Rattle.decimation.specs.Decimation.{output}
+use Rattle.control.specs.declared.Control.{Control}
 use Rattle.player.specs.declared.Voice.{Voice}
-use Rattle.player.specs.declared.Plan.{Plan}
-use Rattle.player.specs.Moves.{moveGlide, pointPlan, movePoint, moveOutput}
-use Rattle.values.specs.Values.{limit}
-use Rattle.player.specs.Points.{point}
+use Rattle.control.specs.declared.Plan.{Plan}
+use Rattle.control.specs.Moves.{moveGlide, pointPlan, movePoint, moveOutput}
+use Rattle.points.specs.Points.{point}
 
 -- the 81 newest points, newest first, after one more
 unfoldable pub push : ℤ → List ℤ → List ℤ
@@ -24,16 +22,6 @@ pushTwo make F c history =
     let c₁ = moveGlide c in
     let c₂ = movePoint F c₁ in
     push (make (pointPlan c₂)) (push (make (pointPlan c₁)) history)
-
--- the sum over k = 0..2B of g[|k−B|] × (k-th newest point)
-unfoldable pub outputSum : List ℤ → List ℤ → ℤ
-outputSum b history =
-    let B = sizesOf b .decimation in
-    sum (2 * B + 1) (λ k. at (decimationTaps b) (natAbs (pos k -ℤ pos B)) *ℤ at history k)
-
--- an output: that sum / 2^22, rounded, limited to −32768..32767
-unfoldable pub output : List ℤ → List ℤ → ℤ
-output b history = limit (negsuc 32767) (pos 32767) (near (outputSum b history) (2 ^ 22))
 
 -- the voice after an output
 unfoldable pub nextVoice : List ℤ → List ℤ → ℕ → Voice → Voice

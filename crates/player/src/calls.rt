@@ -3,23 +3,24 @@
 ghost use mathlib.Core.Path.{_≡_};
 ghost use Prim.Native.Nat.{_≤_};
 ghost use Rattle.player.specs.Inner.{restingVoice};
-ghost use Rattle.player.specs.Refusals.{orderInputNumber};
-ghost use Rattle.player.specs.Calls.{openAnswer, ordered, orderAnswer, seekAnswer, played, playAnswer};
+ghost use Rattle.refusals.specs.Refusals.{orderInputNumber};
+ghost use Rattle.player.specs.Calls.{openAnswer, orderAnswer, seekAnswer, played, playAnswer};
+ghost use Rattle.control.specs.Orders.{ordered};
 use crate::Answer;
-use crate::Card;
-use crate::Control;
-use crate::Fade;
-use crate::Order;
-use crate::Ramp;
 use crate::Voice;
-use crate::moves::no_ramp;
 use crate::outputs::fill;
-use crate::rate::asked_level;
-use crate::rate::scaled_rate;
-use crate::refusals::open_number;
-use crate::refusals::order_number;
-use crate::refusals::play_number;
-use crate::refusals::seek_number;
+use control::Card;
+use control::Control;
+use control::Fade;
+use control::Glide;
+use control::Order;
+use control::moves::no_glide;
+use control::rate::asked_level;
+use control::rate::scaled_rate;
+use refusals::open_number;
+use refusals::order_number;
+use refusals::play_number;
+use refusals::seek_number;
 
 // A voice at position 0 with no glide, no fade and a silent history.
 fn resting(top: u32, rate: u64, level: u32) -> Voice
@@ -34,7 +35,7 @@ fn resting(top: u32, rate: u64, level: u32) -> Voice
                 step: 0,
             },
             rate,
-            glide: Ramp {
+            glide: Glide {
                 start: 0,
                 target: 0,
                 count: 0,
@@ -54,7 +55,7 @@ fn ordered_control(c: Control, order: Order) -> Control
     let fade = c.fade;
     match order {
         Order::Jump(target) => {
-            let glide = no_ramp();
+            let glide = no_glide();
             let rate = scaled_rate(target);
             Control {
                 top: c.top,
@@ -66,7 +67,7 @@ fn ordered_control(c: Control, order: Order) -> Control
         }
         Order::Glide { target, count } => {
             let end = scaled_rate(target);
-            let glide = Ramp {
+            let glide = Glide {
                 start: c.rate,
                 target: end,
                 count,
@@ -106,16 +107,16 @@ impl Voice {
     pub fn order(self, order: Order) -> Answer
         ensures { λ r. ⌜ r ≡ orderAnswer self order ⌝ }
     {
-        let number = order_number(self, order);
+        let c = self.control;
+        let history = self.history;
+        let number = order_number(c, history, order);
         if number != 0 {
             return Answer {
                 number,
                 voice: self,
             };
         }
-        let c = self.control;
         let control = ordered_control(c, order);
-        let history = self.history;
         Answer {
             number: 0,
             voice: Voice { control, history },
@@ -126,34 +127,37 @@ impl Voice {
     pub fn seek(self, position: u64) -> Answer
         ensures { λ r. ⌜ r ≡ seekAnswer self position ⌝ }
     {
-        let number = seek_number(self, position);
+        let c = self.control;
+        let history = self.history;
+        let number = seek_number(c, history, position);
         if number != 0 {
             return Answer {
                 number,
                 voice: self,
             };
         }
-        let mut control = self.control;
+        let mut control = c;
         control.position = position;
-        let history = self.history;
         Answer {
             number: 0,
             voice: Voice { control, history },
         }
     }
 
-    // Fills the whole output slice from a store that was built for `samples` samples by this book.
-    pub fn play(self, book: &[i32], store: &[i32], samples: usize, out: &mut [i16]) -> Answer
-        ensures { λ r. ⌜ played (r .number) (r .voice) (now (out .exit)) ≡ playAnswer (now (book .entry)) (now (store .entry)) samples self (now (out .entry)) ⌝ }
+    // Fills the whole output slice from a store that was built for `sample_count` samples by this book.
+    pub fn play(self, book: &[i32], store: &[i32], sample_count: usize, out: &mut [i16]) -> Answer
+        ensures { λ r. ⌜ played (r .number) (r .voice) (now (out .exit)) ≡ playAnswer (now (book .entry)) (now (store .entry)) «sample_count» self (now (out .entry)) ⌝ }
     {
-        let number = play_number(self, book, store, samples, out.len());
+        let c = self.control;
+        let history = self.history;
+        let number = play_number(c, history, book, store, sample_count, out.len());
         if number != 0 {
             return Answer {
                 number,
                 voice: self,
             };
         }
-        let voice = fill(self, book, store, samples, out);
+        let voice = fill(self, book, store, sample_count, out);
         Answer { number: 0, voice }
     }
 }

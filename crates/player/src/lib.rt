@@ -1,58 +1,9 @@
 // The driving-tone player. A voice goes from state to state by `Voice::open`, `order`, `seek` and `play`.
 
+use control::Control;
+
 mod calls; // open, order, seek and play
-mod decimation; // outputs from a line of points
-mod glide; // a glide along a run of outputs
-mod moves; // what moves a voice: glide, fade, position
-mod outputs; // histories, outputs and blocks of them
-mod points; // points from values
-mod rate; // rates as f32
-mod refusals; // the numbers of the calls
-mod runs; // runs of outputs: positions and points
-
-// The opening card: a rate, and the top level T.
-pub struct Card {
-    pub rate: f32,
-    pub top: u32,
-}
-
-// An order: a jump to a rate, or a glide to a rate over `count` outputs.
-pub enum Order {
-    Jump(f32),
-    Glide { target: f32, count: u32 },
-}
-
-// A glide under way: R0, R1, c and j. Without a glide all four are 0.
-pub struct Ramp {
-    pub start: u64,
-    pub target: u64,
-    pub count: u32,
-    pub done: u32,
-}
-
-// A fade under way: the old level, the new one and i. Without a fade both are the current level and i is 0.
-pub struct Fade {
-    pub from: u32,
-    pub to: u32,
-    pub step: u32,
-}
-
-// What moves a voice: T, the fade, R, the glide and P. It never looks at a point.
-pub struct Control {
-    pub top: u32,
-    pub fade: Fade,
-    pub rate: u64,
-    pub glide: Ramp,
-    pub position: u64,
-}
-
-// What a point is made from: the old and the new level, i (0 where no fade runs) and P.
-pub struct Plan {
-    pub old: u32,
-    pub new: u32,
-    pub step: u32,
-    pub position: u64,
-}
+mod outputs; // histories and blocks of outputs
 
 // A voice: its control, and the last 81 points, newest first.
 pub struct Voice {

@@ -10,12 +10,16 @@ ghost use Rattle.book.specs.Book.{sizesOf};
 ghost use Rattle.book.specs.Check.{bookNumber};
 ghost use Rattle.levels.specs.Sizes.{levelStart};
 ghost use Rattle.player.specs.Outputs.{voiceAfter, outputs};
-ghost use Rattle.player.specs.Sound.{Sound};
-ghost use Rattle.values.specs.Inner.{TableOf};
+ghost use Rattle.control.specs.Valid.{Valid};
+ghost use Rattle.values.specs.Layout.{LayoutOf};
+ghost use Rattle.windows.specs.Inner.{TableOf};
 ghost use Rattle.player.specs.Inner.{lineOf};
 use crate::Voice;
-use crate::decimation::write_outputs;
-use crate::runs::next_points;
+use decimation::write_outputs;
+use points::next_points;
+use values::layout::Layout;
+use values::layout::layout_of;
+use windows::table::stage_rows;
 
 // The line before a run: a history, widened to 64 bits, from place 128 on.
 fn line_of(history: [i32; 81]) -> [i64; 209]
@@ -72,42 +76,22 @@ fn fill_by(
     v: Voice,
     book: &[i32],
     store: &[i32],
-    samples: usize,
+    layout: Layout,
     out: &mut [i16],
 ) -> Voice
     requires { ⌜ ((length (now table) ≡ 0 → ⊥) → TableOf (now book) (now table)) ⌝ }
-    requires { ⌜ (bookNumber (now book) ≡ 0) × (samples ≤ 1048576) × Sound (sizesOf (now book) .fade) (v .control) ⌝ }
-    requires { ⌜ (levelStart samples (v .control .top + 1) ≤ length (now store)) × ((k : ℕ) → k < 81 → natAbs (at (v .history) k) ≤ 2 ^ 29) ⌝ }
-    ensures voice { λ r. ⌜ r ≡ voiceAfter (now (book .entry)) (now (store .entry)) samples v (length (now (out .entry))) ⌝ }
-    ensures words { λ r. ⌜ now (out .exit) ≡ outputs (now (book .entry)) (now (store .entry)) samples v (length (now (out .entry))) ⌝ }
+    requires { ⌜ LayoutOf (now book) (now store) (v .control .top) layout × Valid (sizesOf (now book) .fade) (v .control) × ((k : ℕ) → k < 81 → natAbs (at (v .history) k) ≤ 2 ^ 29) ⌝ }
+    ensures voice { λ r. ⌜ r ≡ voiceAfter (now (book .entry)) (now (store .entry)) (layout .recorded) v (length (now (out .entry))) ⌝ }
+    ensures words { λ r. ⌜ now (out .exit) ≡ outputs (now (book .entry)) (now (store .entry)) (layout .recorded) v (length (now (out .entry))) ⌝ }
 {
-    let s = book::read_sizes(book);
-    let phases = s.phases;
-    let taps = s.taps;
-    let fade = s.fade as u32;
-    let starts = levels::sizes::level_starts(samples);
     let decimation = book::decimation_taps(book);
     let history = v.history;
     let mut control = v.control;
     let mut line = line_of(history);
-    let mut positions = [0u64; 128];
     let mut i = 0;
     while i < out.len() {
         let count = run_length(out.len() - i);
-        let r = next_points(
-            &mut line,
-            &mut positions,
-            control,
-            count,
-            book,
-            phases,
-            taps,
-            fade,
-            store,
-            &starts,
-            samples,
-            table,
-        );
+        let r = next_points(&mut line, control, count, book, store, layout, table);
         let made = r.made;
         write_outputs(book, decimation, &line, made, i, out);
         keep_newest(&mut line, 128 - 2 * made);
@@ -130,18 +114,20 @@ fn table_pays(outputs: usize, phases: usize, taps: usize) -> bool
 }
 
 // Fills the output slice, and hands back the voice after it.
-pub fn fill(v: Voice, book: &[i32], store: &[i32], samples: usize, out: &mut [i16]) -> Voice
-    requires { ⌜ (bookNumber (now book) ≡ 0) × (samples ≤ 1048576) × Sound (sizesOf (now book) .fade) (v .control) ⌝ }
-    requires { ⌜ (levelStart samples (v .control .top + 1) ≤ length (now store)) × ((k : ℕ) → k < 81 → natAbs (at (v .history) k) ≤ 2 ^ 29) ⌝ }
-    ensures voice { λ r. ⌜ r ≡ voiceAfter (now (book .entry)) (now (store .entry)) samples v (length (now (out .entry))) ⌝ }
-    ensures words { λ r. ⌜ now (out .exit) ≡ outputs (now (book .entry)) (now (store .entry)) samples v (length (now (out .entry))) ⌝ }
+pub fn fill(v: Voice, book: &[i32], store: &[i32], sample_count: usize, out: &mut [i16]) -> Voice
+    requires { ⌜ (bookNumber (now book) ≡ 0) × («sample_count» ≤ 1048576) × Valid (sizesOf (now book) .fade) (v .control) ⌝ }
+    requires { ⌜ (levelStart «sample_count» (v .control .top + 1) ≤ length (now store)) × ((k : ℕ) → k < 81 → natAbs (at (v .history) k) ≤ 2 ^ 29) ⌝ }
+    ensures voice { λ r. ⌜ r ≡ voiceAfter (now (book .entry)) (now (store .entry)) «sample_count» v (length (now (out .entry))) ⌝ }
+    ensures words { λ r. ⌜ now (out .exit) ≡ outputs (now (book .entry)) (now (store .entry)) «sample_count» v (length (now (out .entry))) ⌝ }
 {
-    let s = book::read_sizes(book);
-    if table_pays(out.len(), s.phases, s.taps) {
+    let layout = layout_of(book, sample_count);
+    let phases = layout.phases;
+    let taps = layout.taps;
+    if table_pays(out.len(), phases, taps) {
         let mut table = [0i64; 1664];
-        values::table::stage_rows(&mut table, book, s.phases, s.taps);
-        return fill_by(&table, v, book, store, samples, out);
+        stage_rows(&mut table, book, phases, taps);
+        return fill_by(&table, v, book, store, layout, out);
     }
     let none = [0i64; 1];
-    fill_by(&none[0..0], v, book, store, samples, out)
+    fill_by(&none[0..0], v, book, store, layout, out)
 }

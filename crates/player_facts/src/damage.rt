@@ -1,7 +1,7 @@
 // Voices with a field changed, and whether two voices are the same.
-use player::Control;
-use player::Fade;
-use player::Ramp;
+use control::Control;
+use control::Fade;
+use control::Glide;
 use player::Voice;
 
 pub const TOP: u32 = 0;
@@ -40,7 +40,7 @@ fn fade_with(f: Fade, field: u32, x: u32) -> Fade {
     g
 }
 
-fn ramp_with(r: Ramp, field: u32, x: u64) -> Ramp {
+fn glide_with(r: Glide, field: u32, x: u64) -> Glide {
     let mut g = r;
     if field == START {
         g.start = x;
@@ -62,7 +62,7 @@ fn control_with(c: Control, field: u32, x: u64) -> Control {
     let old_fade = c.fade;
     let old_glide = c.glide;
     let fade = fade_with(old_fade, field, small);
-    let glide = ramp_with(old_glide, field, x);
+    let glide = glide_with(old_glide, field, x);
     let mut d = Control {
         top: c.top,
         fade,

@@ -1,9 +1,9 @@
 // Facts of the player that document 01 states and does not star: glides, limits, and every number of every call, with the first of two
 // that hold at once. A line each: what is called, the number, and whether the voice came back as it was.
+use control::Card;
+use control::Control;
+use control::Order;
 use player::Answer;
-use player::Card;
-use player::Control;
-use player::Order;
 use player::Voice;
 
 mod damage; // voices with a field changed

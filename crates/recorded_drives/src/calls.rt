@@ -2,9 +2,9 @@
 // Each is made, and printed with its answer.
 use crate::lines;
 use crate::rates::rate_of;
+use control::Card;
+use control::Order;
 use player::Answer;
-use player::Card;
-use player::Order;
 use player::Voice;
 
 pub const JUMP: u64 = 0;

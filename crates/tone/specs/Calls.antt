@@ -7,7 +7,7 @@ use lib.IntN.{ℤ}
 use lib.ListN.{length}
 use lib.Ieee.{Float}
 use Rattle.levels.specs.Sizes.{storeLength, samplesInRange, topInRange}
-use Rattle.player.specs.declared.Card.{Card}
+use Rattle.control.specs.declared.Card.{Card}
 use Rattle.player.specs.declared.Voice.{Voice}
 use Rattle.player.specs.declared.Answer.{Answer}
 use Rattle.player.specs.Calls.{Played, openAnswer, playAnswer}

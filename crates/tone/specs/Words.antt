@@ -5,7 +5,7 @@ use Prim.Native.Nat.{ℕ, suc, _+_, _-_, _*_, _/_, _%_, _^_}
 use lib.Dec.{ltb}
 use lib.IntN.{ℤ, pos, negsuc, _-ℤ_}
 use Rattle.arith.specs.Lists.{at, part}
-use Rattle.player.specs.declared.Control.{Control}
+use Rattle.control.specs.declared.Control.{Control}
 use Rattle.player.specs.declared.Voice.{Voice}
 
 -- the 32 bits of a word, read as an unsigned number

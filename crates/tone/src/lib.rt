@@ -6,15 +6,15 @@ ghost use mathlib.Core.Path.{_≡_};
 ghost use lib.ListN.{length};
 ghost use Rattle.book.specs.Check.{bookNumber};
 ghost use Rattle.levels.specs.Build.{built, buildAnswer};
-ghost use Rattle.player.specs.declared.Order.the-variants.{Jump, Glide};
+ghost use Rattle.control.specs.declared.Order.the-variants.{Jump, Glide};
 ghost use Rattle.player.specs.Calls.{orderAnswer, seekAnswer};
 ghost use Rattle.tone.specs.Words.{voiceLength};
 ghost use Rattle.tone.specs.Calls.{storeWords, crossed, openCrossing, returned, crossing, playCrossed, playCrossing};
 use crate::words::put_voice;
 use crate::words::voice_of;
+use control::Card;
+use control::Order;
 use player::Answer;
-use player::Card;
-use player::Order;
 use player::Voice;
 
 mod words; // a voice as words

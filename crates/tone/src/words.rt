@@ -7,9 +7,9 @@ ghost use Prim.Native.Nat.{_+_, _≤_, _<_};
 ghost use lib.ListN.{length};
 ghost use Rattle.arith.specs.Lists.{at, part, overwrite};
 ghost use Rattle.tone.specs.Words.{voiceLength, unsigned, signed, wide, lowWord, highWord, controlOf, voiceOf, controlWords, wordsOf};
-use player::Control;
-use player::Fade;
-use player::Ramp;
+use control::Control;
+use control::Fade;
+use control::Glide;
 use player::Voice;
 
 // The 32 bits of a word, read as an unsigned number.
@@ -74,7 +74,7 @@ fn control_of(words: &[i32]) -> Control
             step: unsigned_at(words, 3),
         },
         rate: wide_at(words, 4),
-        glide: Ramp {
+        glide: Glide {
             start: wide_at(words, 6),
             target: wide_at(words, 8),
             count: unsigned_at(words, 10),

@@ -1,11 +1,6 @@
 pub mod Values
 pub mod Steps
 pub mod Windows
-pub mod Staged
 pub mod Mix
 pub mod Split
-pub mod Raised
-pub mod RowSums
-pub mod Newest
-pub mod Tables
-pub mod Totals
+pub mod Layouts

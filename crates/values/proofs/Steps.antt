@@ -11,16 +11,9 @@ use mir.Val.{SFits, toZ, ofZ}
 use mir.Facts.{sfits-widen}
 use Rattle.arith.specs.Lists.{at}
 use Rattle.arith.specs.Sum.{sum}
-use Rattle.arith.proofs.Bits.{reads}
+use Rattle.arith.proofs.Bits.{reads, read32, read64}
 use Rattle.arith.proofs.Integers.{abs-*-≤, abs-fits}
 use Rattle.arith.proofs.Sum.{sum-more, sum-ext, sum-abs-same}
-
--- a signed number, read back from its bits
-abbrev pub read32 : ℤ → ℤ
-read32 x = toZ w32 (ofZ w32 x)
-
-abbrev pub read64 : ℤ → ℤ
-read64 x = toZ w64 (ofZ w64 x)
 
 -- over the words below n
 abbrev pub sumTo : (ℕ → ℤ) → (ℕ → ℤ) → ℕ → ℤ

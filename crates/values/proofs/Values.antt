@@ -14,44 +14,15 @@ use Rattle.arith.proofs.Linear.{linear, lt-yes, lt-no, abs-*}
 use Rattle.arith.proofs.Ring.{products, terms}
 use Rattle.arith.proofs.Integers.{<ℤ-≤ℤ, abs-≤, ≤-abs, ≤ℤ-antisymm, abs-triangle}
 use Rattle.arith.proofs.Floor.{near-bound}
+use Rattle.arith.proofs.Limit.{limit-bound}
 use Rattle.arith.proofs.Sum.{sum-ext, sum-abs-*, total-*, total-≤, total-+, total-reverse, sum-linear}
 use Rattle.book.specs.Book.{sizesOf, impulse}
 use Rattle.book.specs.Check.{phaseSum}
 use Rattle.book.proofs.Accepted.{Accepted, sizes-bounded, difference-is, phaseSum-bound}
-use Rattle.values.specs.Values.{limit, limitedWord, storeLevel, unit, phaseAt, offsetAt, coefficient, valueSum, levelValue, value}
+use Rattle.arith.specs.Limit.{limit}
+use Rattle.values.specs.Values.{limitedWord, storeLevel, unit, phaseAt, offsetAt, coefficient, valueSum, levelValue, value}
 
--- ---- the limit
-
-module _ (lo hi x : ℤ) where
-  -- what is below lo becomes lo, what is above hi becomes hi ..
-  pub limit-between : lo ≤ℤ hi → (lo ≤ℤ limit lo hi x) × (limit lo hi x ≤ℤ hi)
-  unfolding limit
-  limit-between h = go (ltZ x lo) (ltZ hi x) refl refl
-    where
-      go : (s t : Bool) → ltZ x lo ≡ s → ltZ hi x ≡ t → (lo ≤ℤ cond s lo (cond t hi x)) × (cond s lo (cond t hi x) ≤ℤ hi)
-      go true t e f = (≤ℤ-refl lo, h)
-      go false true e f = (h, ≤ℤ-refl hi)
-      go false false e f = (lt-no e, lt-no f)
-
-  -- .. and what lies between stays
-  pub limit-same : lo ≤ℤ x → x ≤ℤ hi → limit lo hi x ≡ x
-  unfolding limit
-  limit-same h k = go (ltZ x lo) (ltZ hi x) refl refl
-    where
-      go : (s t : Bool) → ltZ x lo ≡ s → ltZ hi x ≡ t → cond s lo (cond t hi x) ≡ x
-      go true t e f = ≤ℤ-antisymm h (<ℤ-≤ℤ (lt-yes e))
-      go false true e f = ≤ℤ-antisymm (<ℤ-≤ℤ (lt-yes f)) k
-      go false false e f = refl
-
--- the same limit on both sides
-module _ (B : ℕ) (x : ℤ) where
-  pub limit-bound : natAbs (limit (negℤ (pos B)) (pos B) x) ≤ B
-  limit-bound =
-      let b = limit-between (negℤ (pos B)) (pos B) x (simp linear (omega arith)) in
-      abs-≤ (limit (negℤ (pos B)) (pos B) x) (b .1, b .0)
-
-  pub limit-inside : natAbs x ≤ B → limit (negℤ (pos B)) (pos B) x ≡ x
-  limit-inside h = let b = ≤-abs {a = x} h in limit-same (negℤ (pos B)) (pos B) x (b .1) (b .0)
+-- ---- a limited word
 
 pub limitedWord-bound : (words : List ℤ) (l : ℕ) (i : ℤ) → natAbs (limitedWord words l i) ≤ 2 ^ (23 + l)
 unfolding limitedWord

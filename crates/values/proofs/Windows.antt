@@ -12,14 +12,16 @@ use lib.Pow.{pow-mono}
 use mir.Syntax.{w32, w64}
 use mir.Val.{SFits, toZ, ofZ}
 use Rattle.arith.specs.Lists.{at, wordAt, part}
-use Rattle.arith.proofs.Bits.{reads}
+use Rattle.arith.proofs.Bits.{reads, read32}
 use Rattle.arith.proofs.Integers.{abs-fits}
 use Rattle.arith.proofs.Lists.{part-length, at-part}
-use Rattle.levels.proofs.Around.{before-inside}
-use Rattle.values.specs.Values.{limit, limitedWord}
+use Rattle.book.proofs.Around.{before-inside}
+use Rattle.arith.specs.Limit.{limit}
+use Rattle.values.specs.Values.{limitedWord}
 use Rattle.values.specs.Inner.{windowSum}
-use Rattle.values.proofs.Values.{limit-inside, limitedWord-bound}
-use Rattle.values.proofs.Steps.{read32, sumTo, Step, step, impulseFrom, differenceFrom, impulses-after, differences-after}
+use Rattle.arith.proofs.Limit.{limit-inside}
+use Rattle.values.proofs.Values.{limitedWord-bound}
+use Rattle.values.proofs.Steps.{sumTo, Step, step, impulseFrom, differenceFrom, impulses-after, differences-after}
 
 -- ---- a level's limit b, and a word that was limited by it
 

@@ -1,18 +1,13 @@
 -- Level values (document 01, "One output").
-use mathlib.Core.Bool.{cond}
 use mathlib.Core.List.{List}
 use Prim.Native.Nat.{ℕ, suc, _+_, _-_, _*_, _/_, _%_, _^_}
 use lib.IntN.{ℤ, pos, negℤ, _+ℤ_, _-ℤ_, _*ℤ_}
-use lib.Signed.{ltZ}
 use Rattle.arith.specs.Floor.{near}
+use Rattle.arith.specs.Limit.{limit}
 use Rattle.arith.specs.Lists.{wordAt, part}
 use Rattle.arith.specs.Sum.{sum}
 use Rattle.book.specs.Book.{sizesOf, impulse, difference}
 use Rattle.levels.specs.Sizes.{levelLength, levelStart}
-
--- x, limited to lo..hi
-unfoldable pub limit : ℤ → ℤ → ℤ → ℤ
-limit lo hi x = cond (ltZ x lo) lo (cond (ltZ hi x) hi x)
 
 -- word i of level l, whose words are given, 0 outside; a word beyond ±2^(23+l) is read as that limit
 unfoldable pub limitedWord : List ℤ → ℕ → ℤ → ℤ

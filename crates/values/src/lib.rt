@@ -1,7 +1,4 @@
-// Level values: what a level of a store is worth at a position, one at a time and along a run. Nothing here knows a voice.
+// Level values: what a level of a store is worth at a position. Nothing here knows a voice.
 
-mod biased; // values four at a time, from raised words
-mod staging; // the words that a run reads
-pub mod table; // a book's phases, raised
+pub mod layout; // where the parts of a lent book and store lie
 pub mod value; // the value of a level at a position
-pub mod window; // values along a run of positions

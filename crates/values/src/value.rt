@@ -3,23 +3,26 @@
 ghost use mathlib.Core.Path.{_≡_};
 ghost use Prim.Native.Nat.{ℕ, _+_, _*_, _^_, _≤_, _<_};
 ghost use lib.IntN.{pos, negℤ, natAbs, _+ℤ_, _-ℤ_, _*ℤ_};
-ghost use lib.ListN.{length, getD, drop};
+ghost use lib.ListN.{length, drop};
 ghost use Rattle.arith.specs.Floor.{near};
 ghost use Rattle.arith.specs.Lists.{at, wordAt};
 ghost use Rattle.book.specs.Book.{sizesOf};
 ghost use Rattle.book.specs.Check.{bookNumber};
-ghost use Rattle.levels.specs.Sizes.{levelStart};
-ghost use Rattle.values.specs.Values.{limit, levelValue, value};
+ghost use Rattle.arith.specs.Limit.{limit};
+ghost use Rattle.values.specs.Values.{levelValue, value};
+ghost use Rattle.values.specs.Layout.{LayoutOf};
 ghost use Rattle.values.specs.Inner.{windowSum, restOf};
+use crate::layout::Layout;
+use crate::layout::level_words;
 
 // The sums of a level's words times impulses, and times differences.
-pub(crate) struct Sums {
+pub struct Sums {
     pub impulses: i64,
     pub differences: i64,
 }
 
 // A word, limited to ±bound.
-pub(crate) fn limited(x: i32, bound: i32) -> i64
+pub fn limited(x: i32, bound: i32) -> i64
     requires { ⌜ (natAbs bound ≤ 2 ^ 27) × (bound ≡ pos (natAbs bound)) ⌝ }
     ensures { λ r. ⌜ r ≡ limit (negℤ bound) bound x ⌝ }
 {
@@ -33,7 +36,7 @@ pub(crate) fn limited(x: i32, bound: i32) -> i64
 }
 
 // Word `place` − `half`, or 0 outside the level.
-pub(crate) fn word_at(words: &[i32], place: u64, half: u64) -> i32
+pub fn word_at(words: &[i32], place: u64, half: u64) -> i32
     ensures { λ r. ⌜ r ≡ wordAt (now (words .entry)) (pos place -ℤ pos half) ⌝ }
 {
     if place < half {
@@ -111,7 +114,7 @@ fn edge_sums(
 }
 
 // 2^(23 + level): the limit of the level's words
-pub(crate) fn level_bound(level: u32) -> i32
+pub fn level_bound(level: u32) -> i32
     requires { ⌜ level ≤ 4 ⌝ }
     ensures { λ r. ⌜ r ≡ pos (2 ^ (23 + level)) ⌝ }
 {
@@ -126,7 +129,7 @@ pub(crate) fn level_bound(level: u32) -> i32
 
 // near((2^shift × impulses + offset × differences) / (2^14 × 2^shift)). The sum has up to 76 bits, so it is taken apart: the floor of
 // offset × differences / 2^shift, and whether that left a rest, which only says on which side of a half the number lies.
-pub(crate) fn mixed(impulses: i64, differences: i64, offset: u64, shift: u32) -> i64
+pub fn mixed(impulses: i64, differences: i64, offset: u64, shift: u32) -> i64
     requires { ⌜ (natAbs impulses ≤ 2 ^ 44) × (natAbs differences ≤ 2 ^ 45) × (offset < 2 ^ shift) × (28 ≤ shift) × (shift ≤ 32) ⌝ }
     ensures { λ r. ⌜ r ≡ near (pos (2 ^ shift) *ℤ impulses +ℤ pos offset *ℤ differences) (16384 * 2 ^ shift) ⌝ }
 {
@@ -206,24 +209,11 @@ fn window_sums(
     edge_sums(rows, gap, words, level, first, half as u64, taps)
 }
 
-// The value of a level of a store. `starts` has the places of the levels.
-pub fn store_value(
-    book: &[i32],
-    phases: usize,
-    taps: usize,
-    store: &[i32],
-    starts: &[usize; 6],
-    samples: usize,
-    level: u32,
-    position: u64,
-) -> i32
-    requires { ⌜ (bookNumber (now book) ≡ 0) × (phases ≡ sizesOf (now book) .phases) × (taps ≡ sizesOf (now book) .taps) ⌝ }
-    requires { ⌜ (samples ≤ 1048576) × ((j : ℕ) → j < 6 → getD (now starts) j 0 ≡ levelStart samples j) ⌝ }
-    requires { ⌜ (level ≤ 4) × (position ≤ 2 ^ 60) × (levelStart samples (level + 1) ≤ length (now store)) ⌝ }
-    ensures { λ r. ⌜ r ≡ value (now (book .entry)) (now (store .entry)) samples level position ⌝ }
+// The value of a level of a store.
+pub fn store_value(book: &[i32], store: &[i32], layout: Layout, level: u32, position: u64) -> i32
+    requires { ⌜ LayoutOf (now book) (now store) level layout × (level ≤ 4) × (position ≤ 2 ^ 60) ⌝ }
+    ensures { λ r. ⌜ r ≡ value (now (book .entry)) (now (store .entry)) (layout .recorded) level position ⌝ }
 {
-    let l = level as usize;
-    let start = starts[l];
-    let end = starts[l + 1];
-    level_value(book, phases, taps, &store[start..end], level, position)
+    let words = level_words(store, layout, level);
+    level_value(book, layout.phases, layout.taps, words, level, position)
 }

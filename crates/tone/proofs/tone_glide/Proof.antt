@@ -4,7 +4,7 @@ use borrow.Author.Tests.{eq-eqb, ne-eqb}
 use mathlib.Core.Path.{ap, _∙_}
 use Rattle.tone.specs.Calls.{returned, crossing}
 use Rattle.player.specs.Calls.{orderAnswer}
-use Rattle.player.specs.declared.Order.the-variants.{Glide}
+use Rattle.control.specs.declared.Order.the-variants.{Glide}
 use Rattle.tone.proofs.tone_glide.Statement.{statement}
 use Rattle.tone.proofs.tone_glide.Tie as tie
 

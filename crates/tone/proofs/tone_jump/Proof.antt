@@ -4,7 +4,7 @@ use borrow.Author.Tests.{eq-eqb, ne-eqb}
 use mathlib.Core.Path.{ap, _∙_}
 use Rattle.tone.specs.Calls.{returned, crossing}
 use Rattle.player.specs.Calls.{orderAnswer}
-use Rattle.player.specs.declared.Order.the-variants.{Jump}
+use Rattle.control.specs.declared.Order.the-variants.{Jump}
 use Rattle.tone.proofs.tone_jump.Statement.{statement}
 use Rattle.tone.proofs.tone_jump.Tie as tie
 

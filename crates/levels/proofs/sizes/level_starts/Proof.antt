@@ -8,7 +8,8 @@ use native.Mathlib.Omega.{arith}
 use lib.ListN.{length, getD, set, length-set}
 use lib.Seq.{getD-set-same, getD-set-other}
 use mathlib.Core.List.{List}
-use Rattle.levels.specs.Sizes.{halfLength, levelLength, levelStart}
+use Rattle.octave.specs.Octave.{halfLength}
+use Rattle.levels.specs.Sizes.{levelLength, levelStart}
 use Rattle.levels.proofs.Lengths.{levelLength-zero, levelLength-≤, levelLength-more, levelStart-zero, levelStart-more}
 use Rattle.levels.proofs.sizes.level_starts.Statement.{statement}
 use Rattle.levels.proofs.sizes.level_starts.Tie as tie

@@ -3,8 +3,10 @@ use mathlib.Core.Path.{_≡_, sym, ap, _∙_}
 use Prim.Native.Nat.{_-_, _≤_}
 use native.Mathlib.Omega.{arith}
 use borrow.Author.Needs.{needs}
-use Rattle.levels.specs.Sizes.{halfLength, levelLength, storeLength}
-use Rattle.levels.proofs.Lengths.{halfLength-≤, levelLength-zero, levelLength-≤, levelLength-more, levelStart-zero, storeLength-is, storeLength-more, storeLength-≤}
+use Rattle.octave.specs.Octave.{halfLength}
+use Rattle.levels.specs.Sizes.{levelLength, storeLength}
+use Rattle.octave.proofs.Octave.{halfLength-≤}
+use Rattle.levels.proofs.Lengths.{levelLength-zero, levelLength-≤, levelLength-more, levelStart-zero, storeLength-is, storeLength-more, storeLength-≤}
 use Rattle.levels.proofs.sizes.store_length.Statement.{statement}
 use Rattle.levels.proofs.sizes.store_length.Tie as tie
 

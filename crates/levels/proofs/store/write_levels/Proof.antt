@@ -9,10 +9,11 @@ use borrow.Author.Needs.{needs}
 use lib.IntN.{ℤ, natAbs}
 use lib.ListN.{length, drop}
 use Rattle.arith.specs.Lists.{at, part, overwrite}
-use Rattle.levels.specs.Sizes.{halfLength, levelLength, levelStart, storeLength}
-use Rattle.levels.specs.Levels.{nextLevel, levelOf, levelsOf}
+use Rattle.octave.specs.Octave.{halfLength, nextLevel}
+use Rattle.levels.specs.Sizes.{levelLength, levelStart, storeLength}
+use Rattle.levels.specs.Levels.{levelOf, levelsOf}
 use Rattle.levels.proofs.Lengths.{levelLength-zero, levelLength-more, levelStart-zero, levelStart-more, storeLength-is, storeLength-more, storeLength-mono}
-use Rattle.arith.proofs.Parts.{overwrite-again, overwrite-length}
+use Rattle.arith.proofs.Parts.{overwrite-again, length-overwrite}
 use Rattle.levels.proofs.Laws.{length-first, length-levels, level-bound, levels-zero, level-begins, levels-more}
 use Rattle.levels.proofs.store.write_levels.Statement.{statement}
 use Rattle.levels.proofs.store.write_levels.Tie as tie
@@ -76,7 +77,7 @@ module _ (a : tie.At-loop Inv-loop μ-loop) where
   store-is = a .loop .inv .3 ∙ over-first f j
 
   store-length : length (a .loop .store) ≡ length (given (s f))
-  store-length = ap length store-is ∙ overwrite-length (given (s f)) (levelsOf (taps (s f)) (samples (s f)) j) (room (s f) j (a .loop .inv .0))
+  store-length = ap length store-is ∙ length-overwrite (given (s f)) (levelsOf (taps (s f)) (samples (s f)) j) 0 (omega (arith, room (s f) j (a .loop .inv .0)))
 
   level-now : part (a .loop .store) (a .loop .start) (a .loop .length) ≡ levelOf (taps (s f)) (samples (s f)) j
   level-now =

@@ -3,13 +3,13 @@
 use borrow.Author.Needs.{needs}
 use borrow.Author.Tests.{ne-eqb}
 use mathlib.Core.Path.{_≡_, sym, ap, ap₂, _∙_}
-use Rattle.player.specs.Rate.{askedLevel}
-use Rattle.player.specs.Moves.{freshControl}
-use Rattle.player.specs.Refusals.{openNumber}
+use Rattle.control.specs.Rate.{askedLevel}
+use Rattle.control.specs.Moves.{freshControl}
+use Rattle.refusals.specs.Refusals.{openNumber}
 use Rattle.player.specs.Inner.{restingVoice}
 use Rattle.player.specs.Calls.{answer, zeroVoice, freshVoice, openAnswer}
-use Rattle.player.proofs.Rates.{rate-wider}
-use Rattle.player.proofs.Kept.{open-top, open-rate}
+use Rattle.control.proofs.Rates.{rate-wider}
+use Rattle.refusals.proofs.Accepted.{open-top, open-rate}
 use Rattle.player.proofs.Voice.open.Statement.{statement}
 use Rattle.player.proofs.Voice.open.Tie as tie
 

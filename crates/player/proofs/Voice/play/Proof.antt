@@ -14,9 +14,9 @@ use Rattle.levels.specs.Build.{storeNumber}
 use Rattle.levels.proofs.Fitting.{Fitting, fitting}
 use Rattle.player.specs.declared.Voice.{Voice}
 use Rattle.player.specs.Outputs.{voiceAfter, outputs}
-use Rattle.player.specs.Refusals.{playStateNumber, playNumber}
-use Rattle.player.specs.Calls.{pointBound, played, playAnswer}
-use Rattle.player.proofs.Sound.{sound-of, history-of}
+use Rattle.refusals.specs.Refusals.{playStateNumber, playNumber, pointBound}
+use Rattle.player.specs.Calls.{played, playAnswer}
+use Rattle.refusals.proofs.Valid.{valid-of, history-of}
 use Rattle.player.proofs.Voice.play.Statement.{statement}
 use Rattle.player.proofs.Voice.play.Tie as tie
 
@@ -34,7 +34,7 @@ module _ (s : tie.Start) where
   out₀ = s .args .out .now
 
   abbrev number : ℕ
-  number = playNumber b store (s .args .samples) (v .control) pointBound (v .history) (length out₀)
+  number = playNumber b store (s .args .sample-count) (v .control) pointBound (v .history) (length out₀)
 
 play-number-requires : tie.Need-play-number-requires
 play-number-requires c κs = search needs
@@ -42,7 +42,7 @@ play-number-requires c κs = search needs
 returns : tie.Need-returns
 unfolding playAnswer
 returns c =
-    let s = c .before .before in
+    let s = c .before .before .before .before in
     let e : c .before .play-number .result ≡ number s = c .before .play-number .ensures in
     simp (ne-eqb _ _ (λ z. c .if1 .taken (e ∙ z))) (ap (λ n. played n (v s) (out₀ s)) e)
 
@@ -50,18 +50,18 @@ returns c =
 
 module _ (c : tie.Else1) where
   abbrev start : tie.Start
-  start = c .before .before
+  start = c .before .before .before .before
 
   no-number : number start ≡ 0
   no-number = sym (c .before .play-number .ensures) ∙ c .if1 .left
 
-  room : Fitting (b start) (start .args .samples) (v start .control .top) (length (store start))
+  room : Fitting (b start) (start .args .sample-count) (v start .control .top) (length (store start))
   unfolding playNumber
   room = fitting _ _ _ _ (none-first _ _ no-number)
 
   no-state-number : playStateNumber (sizesOf (b start) .fade) (v start .control) pointBound (v start .history) (length (out₀ start)) ≡ 0
   unfolding playNumber
-  no-state-number = none-second (storeNumber (b start) (start .args .samples) (v start .control .top) (length (store start))) _ no-number
+  no-state-number = none-second (storeNumber (b start) (start .args .sample-count) (v start .control .top) (length (store start))) _ no-number
 
 fill-requires : tie.Need-fill-requires
 unfolding storeLength
@@ -70,8 +70,8 @@ fill-requires c κs =
     let s = start e in
     let r = room e in
     let n = no-state-number e in
-    let words : levelStart (s .args .samples) (v s .control .top + 1) ≤ length (store s) = rw add-one (r .room) in
-    ((r .book, r .samples-high, sound-of _ _ _ _ _ n), (words, history-of _ _ _ _ _ n))
+    let words : levelStart (s .args .sample-count) (v s .control .top + 1) ≤ length (store s) = rw add-one (r .room) in
+    ((r .book, r .samples-high, valid-of _ _ _ _ _ n), (words, history-of _ _ _ _ _ n))
 
 same-length : tie.Need-same-length
 same-length c = search needs
@@ -82,8 +82,8 @@ returns-2 c =
     let f = c .before in
     let e = f .before .before in
     let s = start e in
-    let voice : f .fill .result ≡ voiceAfter (b s) (store s) (s .args .samples) (v s) (length (out₀ s)) = f .fill .ensures .0 in
-    let words : f .fill .last .1 .1 .1 .1 .0 ≡ outputs (b s) (store s) (s .args .samples) (v s) (length (out₀ s)) = f .fill .ensures .1 in
+    let voice : f .fill .result ≡ voiceAfter (b s) (store s) (s .args .sample-count) (v s) (length (out₀ s)) = f .fill .ensures .0 in
+    let words : f .fill .last .1 .1 .1 .1 .0 ≡ outputs (b s) (store s) (s .args .sample-count) (v s) (length (out₀ s)) = f .fill .ensures .1 in
     simp (no-number e) (ap₂ (played 0) voice words)
 
 pub play-spec : {M : Type 1} → statement M

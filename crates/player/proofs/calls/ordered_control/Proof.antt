@@ -5,12 +5,12 @@ use mathlib.Core.Bool.{true}
 use Prim.Native.Nat.{ℕ, _≤_}
 use lib.Ieee.{Float}
 use Rattle.book.proofs.Numbers.{none-first, not-refused}
-use Rattle.player.specs.declared.Order.the-variants.{Jump, Glide}
-use Rattle.player.specs.Rate.{rateInRange}
-use Rattle.player.specs.Moves.{jumped, gliding}
-use Rattle.player.specs.Refusals.{orderInputNumber}
-use Rattle.player.specs.Calls.{ordered}
-use Rattle.player.proofs.Rates.{rate-wider}
+use Rattle.control.specs.declared.Order.the-variants.{Jump, Glide}
+use Rattle.control.specs.Rate.{rateInRange}
+use Rattle.control.specs.Moves.{jumped, gliding}
+use Rattle.control.specs.Orders.{ordered}
+use Rattle.refusals.specs.Refusals.{orderInputNumber}
+use Rattle.control.proofs.Rates.{rate-wider}
 use Rattle.player.proofs.calls.ordered_control.Statement.{statement}
 use Rattle.player.proofs.calls.ordered_control.Tie as tie
 
@@ -26,8 +26,8 @@ glide-rate T r count h e = rate-wider r T 4 h (not-refused 9 _ (none-first _ _ e
 enum-known-order : tie.Need-enum-known-order
 enum-known-order c = search needs
 
-no-ramp-requires : tie.Need-no-ramp-requires
-no-ramp-requires c κs = search needs
+no-glide-requires : tie.Need-no-glide-requires
+no-glide-requires c κs = search needs
 
 scaled-rate-requires : tie.Need-scaled-rate-requires
 scaled-rate-requires c κs =
@@ -44,7 +44,7 @@ scaled-rate-requires-2 c κs =
 
 returns : tie.Need-returns
 unfolding ordered jumped
-returns c = simp (c .before .before .before .order .given .1, c .before .no-ramp .ensures, c .scaled-rate .ensures)
+returns c = simp (c .before .before .before .order .given .1, c .before .no-glide .ensures, c .scaled-rate .ensures)
 
 returns-2 : tie.Need-returns-2
 unfolding ordered gliding
@@ -55,7 +55,7 @@ ordered-control-spec =
     tie.close
     (tie.spec
     enum-known-order
-    no-ramp-requires
+    no-glide-requires
     scaled-rate-requires
     enum-known-order-2
     scaled-rate-requires-2

@@ -1,12 +1,14 @@
 -- `player::outputs::fill` meets its contract: either call of `fill_by` does, with a book's table or with none. Assumes nothing.
-use mathlib.Core.Path.{refl, ap}
+use mathlib.Core.Path.{_≡_, refl, ap, _∙_}
 use mathlib.Core.List.{List}
 use native.Mathlib.Omega.{arith}
 use borrow.Author.Needs.{needs}
+use Prim.Native.Nat.{ℕ}
 use lib.IntN.{ℤ}
-use Rattle.book.specs.Book.{sizesOf}
-use Rattle.book.proofs.Bounds.{length-is}
 use Rattle.book.proofs.Accepted.{Accepted, accepted, sizes-bounded}
+use Rattle.values.specs.Layout.{LayoutOf}
+use Rattle.player.specs.declared.Voice.{Voice}
+use Rattle.player.specs.Outputs.{voiceAfter, outputs}
 use Rattle.player.proofs.outputs.fill.Statement.{statement}
 use Rattle.player.proofs.outputs.fill.Tie as tie
 
@@ -17,14 +19,33 @@ module _ (s : tie.Start) where
   book : Accepted b
   book = accepted b (s .pre .0 .0)
 
-read-sizes-requires : tie.Need-read-sizes-requires
-read-sizes-requires c κs = omega (arith, book c .lengthy, length-is (sizesOf (b c)))
+layout-of-requires : tie.Need-layout-of-requires
+layout-of-requires c κs = (c .pre .0 .0, c .pre .0 .1)
+
+-- the layout is that of the book and the store
+module _ (l : tie.After-layout-of) where
+  abbrev start : tie.Start
+  start = l .before
+
+  layout-is : LayoutOf (b start) (start .args .store .now) (start .args .v .control .top) (l .layout-of .result)
+  layout-is = l .layout-of .ensures .1 (start .args .store .now) (start .args .v .control .top) (start .pre .1 .0)
+
+  recorded-is : l .layout-of .result .recorded ≡ start .args .sample-count
+  recorded-is = l .layout-of .ensures .0
+
+  -- so that what is filled by it is filled from so many samples
+  filled : (v : Voice) (n : ℕ) {w : Voice} {words : List ℤ}
+      → (w ≡ voiceAfter (b start) (start .args .store .now) (l .layout-of .result .recorded) v n) × (words ≡ outputs (b start) (start .args .store .now) (l .layout-of .result .recorded) v n)
+      → (w ≡ voiceAfter (b start) (start .args .store .now) (start .args .sample-count) v n) × (words ≡ outputs (b start) (start .args .store .now) (start .args .sample-count) v n)
+  filled v n e = (
+    e .0 ∙ ap (λ S. voiceAfter (b start) (start .args .store .now) S v n) recorded-is,
+    e .1 ∙ ap (λ S. outputs (b start) (start .args .store .now) S v n) recorded-is,
+  )
 
 table-pays-requires : tie.Need-table-pays-requires
 table-pays-requires c κs =
-    let f = sizes-bounded (b (c .before)) (book (c .before)) in
-    let e = c .read-sizes .ensures in
-    (omega (arith, ap (λ z. z .phases) e, f .phases-high), omega (arith, ap (λ z. z .taps) e, f .taps-high))
+    let f = sizes-bounded (b (start c)) (book (start c)) in
+    (omega (arith, layout-is c .phases, f .phases-high), omega (arith, layout-is c .taps, f .taps-high))
 
 -- ---- with a table
 
@@ -34,9 +55,8 @@ slice-aggregate-stage-rows c = search needs
 stage-rows-requires : tie.Need-stage-rows-requires
 stage-rows-requires c κs =
     let t = c .before .before in
-    let s = t .before .before in
-    let e = t .before .read-sizes .ensures in
-    (s .pre .0 .0, ap (λ z. z .phases) e, ap (λ z. z .taps) e, t .table-pays .ensures (c .before .if1 .taken), omega arith)
+    let l = layout-is (t .before) in
+    (l .book-accepted, l .phases, l .taps, t .table-pays .ensures (c .before .if1 .taken), omega arith)
 
 slice-aggregate-fill-by : tie.Need-slice-aggregate-fill-by
 slice-aggregate-fill-by c = search needs
@@ -44,14 +64,14 @@ slice-aggregate-fill-by c = search needs
 fill-by-requires : tie.Need-fill-by-requires
 fill-by-requires c κs =
     let r = c .before .before .before in
-    let s = r .before .before .before .before .before in
-    ((λ n. r .stage-rows .ensures), s .pre)
+    let l = r .before .before .before .before in
+    ((λ n. r .stage-rows .ensures), (layout-is l, start l .pre .0 .2, start l .pre .1 .1))
 
 same-length : tie.Need-same-length
 same-length c = search needs
 
 returns : tie.Need-returns
-returns c = search needs
+returns c = filled (c .before .before .before .before .before .before .before .before .before) _ _ (c .before .fill-by .ensures)
 
 -- ---- without one
 
@@ -66,20 +86,20 @@ part-fill-by-end c = search needs
 
 fill-by-requires-2 : tie.Need-fill-by-requires-2
 fill-by-requires-2 c κs =
-    let s = c .before .before .before .before .before .before in
-    ((λ some. absurd (some refl)), s .pre)
+    let l = c .before .before .before .before .before in
+    ((λ some. absurd (some refl)), (layout-is l, start l .pre .0 .2, start l .pre .1 .1))
 
 same-length-2 : tie.Need-same-length-2
 same-length-2 c = search needs
 
 returns-2 : tie.Need-returns-2
-returns-2 c = search needs
+returns-2 c = filled (c .before .before .before .before .before .before .before) _ _ (c .before .fill-by2 .ensures)
 
 pub fill-spec : {M : Type 1} → statement M
 fill-spec =
     tie.close
     (tie.spec
-    read-sizes-requires
+    layout-of-requires
     table-pays-requires
     slice-aggregate-stage-rows
     stage-rows-requires

@@ -1,6 +1,6 @@
 -- `player::outputs::fill_by` meets its contract. The loop's invariant: `Filled`, of the outputs so far. Assumes nothing.
 use borrow.Author.Needs.{needs}
-use mathlib.Core.Path.{_≡_, refl, sym, ap, ap₂, _∙_}
+use mathlib.Core.Path.{_≡_, refl, sym, ap, ap₂, subst, _∙_}
 use mathlib.Core.List.{List}
 use Prim.Native.Nat.{ℕ, _+_, _-_, _*_, _^_, _≤_, _<_, min}
 use native.Mathlib.Nat.{le-trans, le-of-eq, le-min, min-le-left, min-le-right}
@@ -13,13 +13,17 @@ use Rattle.arith.proofs.Lists.{at-outside, paste-none, paste-whole}
 use Rattle.book.specs.Book.{sizesOf}
 use Rattle.book.proofs.Bounds.{length-is}
 use Rattle.book.proofs.Accepted.{Accepted, accepted, sizes-bounded}
-use Rattle.player.specs.declared.Control.{Control}
+use Rattle.control.specs.declared.Control.{Control}
 use Rattle.player.specs.declared.Voice.{Voice}
 use Rattle.player.specs.Outputs.{voiceAfter, outputs}
-use Rattle.player.specs.Points.{point}
-use Rattle.player.specs.Inner.{controlAfter, runPoints, lineOf}
+use Rattle.points.specs.Points.{point}
+use Rattle.positions.specs.Runs.{controlAfter}
+use Rattle.points.specs.Runs.{runPoints}
+use Rattle.player.specs.Inner.{lineOf}
 use Rattle.player.proofs.Blocks.{length-outputs}
 use Rattle.player.proofs.Filled.{Filled, length-line, line-every, line-long, filled-more, filled-length, filled-ready, run-small, end-history}
+use Rattle.control.specs.Valid.{Valid}
+use Rattle.values.specs.Layout.{LayoutOf}
 use Rattle.player.proofs.outputs.fill_by.Statement.{statement}
 use Rattle.player.proofs.outputs.fill_by.Tie as tie
 
@@ -28,11 +32,11 @@ abbrev voiceWith : Control → List ℤ → Voice
 voiceWith control line = record { control = control; history = drop 128 line }
 
 abbrev Inv-loop : tie.InvT-loop
-Inv-loop table book store samples out₀ phases taps fade starts decimation control₀ line₀ positions₀ i₀ out control line positions i =
-    (length positions ≡ 128) × Filled book store samples (voiceWith control₀ line₀) out₀ control line out i
+Inv-loop table book store layout out₀ decimation control₀ line₀ i₀ out control line i =
+    Filled book store (layout .recorded) (voiceWith control₀ line₀) out₀ control line out i
 
 abbrev μ-loop : tie.MeasureT-loop
-μ-loop table book store samples out₀ phases taps fade starts decimation control₀ line₀ positions₀ i₀ out control line positions i = length out₀ - i
+μ-loop table book store layout out₀ decimation control₀ line₀ i₀ out control line i = length out₀ - i
 
 -- ---- before the loop
 
@@ -44,7 +48,7 @@ module _ (s : tie.Start Inv-loop μ-loop) where
   store = s .args .store .now
 
   abbrev S : ℕ
-  S = s .args .samples
+  S = s .args .layout .recorded
 
   abbrev v : Voice
   v = s .args .v
@@ -56,19 +60,10 @@ module _ (s : tie.Start Inv-loop μ-loop) where
   out-fits = omega arith
 
   book : Accepted b
-  book = accepted b (s .pre .1 .0 .0)
-
-read-sizes-requires : tie.Need-read-sizes-requires Inv-loop μ-loop
-read-sizes-requires c κs = omega (arith, book c .lengthy, length-is (sizesOf (b c)))
-
-cast-fade : tie.Need-cast-fade Inv-loop μ-loop
-cast-fade c = let s = c .before .before in omega (arith, ap (λ z. z .fade) (c .before .read-sizes .ensures), sizes-bounded (b s) (book s) .fade-high)
-
-level-starts-requires : tie.Need-level-starts-requires Inv-loop μ-loop
-level-starts-requires c κs = omega arith
+  book = accepted b (s .pre .1 .0 .book-accepted)
 
 decimation-taps-requires : tie.Need-decimation-taps-requires Inv-loop μ-loop
-decimation-taps-requires c κs = c .before .before .before .pre .1 .0 .0
+decimation-taps-requires c κs = c .pre .1 .0 .book-accepted
 
 line-of-requires : tie.Need-line-of-requires Inv-loop μ-loop
 line-of-requires c κs = search needs
@@ -76,7 +71,7 @@ line-of-requires c κs = search needs
 -- the line that the loop begins with
 module _ (c : tie.After-line-of Inv-loop μ-loop) where
   abbrev start : tie.Start Inv-loop μ-loop
-  start = c .before .before .before .before .before .before .before
+  start = c .before .before .before .before
 
   abbrev line₀ : List ℤ
   line₀ = c .line-of .result
@@ -106,23 +101,21 @@ module _ (c : tie.After-line-of Inv-loop μ-loop) where
   small₀ k = go (decLt k 81)
     where
       go : Dec (k < 81) → natAbs (at history k) ≤ 2 ^ 29
-      go (yes h) = start .pre .1 .1 .1 k h
+      go (yes h) = start .pre .1 .2 k h
       go (no h) = rw (at-outside history k (omega (arith, history-length))) (omega arith)
 
 loop-holds : tie.Need-loop-holds Inv-loop μ-loop
 unfolding voiceAfter
 loop-holds c =
-    let s = start c in (
-      refl,
-      record {
-        count = omega arith;
-        control = refl;
-        long = ap length (line-is c) ∙ length-line (history c) (history-length c);
-        points = refl;
-        small = rw (line-is c) (line-every (λ x. natAbs x ≤ 2 ^ 29) (omega arith) (history c) (small₀ c));
-        words = paste-none (out₀ s) 0 (outputs (b s) (store s) (S s) (voice₀ c) (length (out₀ s)));
-      },
-    )
+    let s = start c in
+    record {
+      count = omega arith;
+      control = refl;
+      long = ap length (line-is c) ∙ length-line (history c) (history-length c);
+      points = refl;
+      small = rw (line-is c) (line-every (λ x. natAbs x ≤ 2 ^ 29) (omega arith) (history c) (small₀ c));
+      words = paste-none (out₀ s) 0 (outputs (b s) (store s) (S s) (voice₀ c) (length (out₀ s)));
+    }
 
 -- ---- a turn
 
@@ -134,16 +127,16 @@ module _ (a : tie.At-loop Inv-loop μ-loop) where
   i = a .loop .i
 
   filled : Filled (b s) (store s) (S s) (voice₀ (a .before)) (out₀ s) (a .loop .control) (a .loop .line) (a .loop .out) i
-  filled = a .loop .inv .1
+  filled = a .loop .inv
 
   out-length : length (a .loop .out) ≡ length (out₀ s)
   out-length = filled-length filled
 
-  sizes-are : a .before .before .before .before .before .before .before .read-sizes .result ≡ sizesOf (b s)
-  sizes-are = a .before .before .before .before .before .before .before .read-sizes .ensures
+  layout-is : LayoutOf (b s) (store s) (v s .control .top) (s .args .layout)
+  layout-is = s .pre .1 .0
 
-  fade-is : a .before .before .before .before .before .before .before .read-sizes .result .fade ≡ sizesOf (b s) .fade
-  fade-is = ap (λ z. z .fade) sizes-are
+  fade-is : s .args .layout .fade ≡ sizesOf (b s) .fade
+  fade-is = layout-is .fade
 
 sub-run-length : tie.Need-sub-run-length Inv-loop μ-loop
 sub-run-length c = omega (arith, filled (c .before) .count, out-length (c .before))
@@ -154,27 +147,26 @@ run-length-requires c κs = search needs
 slice-aggregate-next-points : tie.Need-slice-aggregate-next-points Inv-loop μ-loop
 slice-aggregate-next-points c = sym (filled (c .before .before .before) .long)
 
-slice-aggregate-next-points-2 : tie.Need-slice-aggregate-next-points-2 Inv-loop μ-loop
-slice-aggregate-next-points-2 c = sym (c .before .before .before .before .loop .inv .0)
-
 next-points-requires : tie.Need-next-points-requires Inv-loop μ-loop
 next-points-requires c κs =
-    let a = c .before .before .before .before .before in
+    let a = c .before .before .before in
     let u = s a in
-    let e = sizes-are a in
-    let r = c .before .before .before .run-length .ensures in
-    let ready = filled-ready (filled a) (fade-is a) (u .pre .1 .0 .2) (u .pre .1 .1 .0) in (
-      (u .pre .1 .0 .0, ap (λ z. z .phases) e, ap (λ z. z .taps) e, fade-is a),
+    let r = c .before .run-length .ensures in
+    let ready = filled-ready (filled a) (u .pre .1 .1) in (
       (
-        (u .pre .1 .0 .1, a .before .before .before .before .before .level-starts .ensures),
-        ((ready .0, ready .1, filled a .long, a .loop .inv .0, rw r (le-min (omega arith) (omega arith)), rw r (min-le-left 64 _)), u .pre .0),
+        subst (λ T. LayoutOf (b u) (store u) T (u .args .layout)) (sym (ready .1)) (layout-is a),
+        subst (λ F. Valid F (a .loop .control)) (sym (fade-is a)) (ready .0),
+        filled a .long,
+        rw r (le-min (omega arith) (omega arith)),
+        rw r (min-le-left 64 _),
       ),
+      u .pre .0,
     )
 
 -- the points of the next outputs are on the line
 module _ (n : tie.After-next-points Inv-loop μ-loop) where
   abbrev turn : tie.At-loop Inv-loop μ-loop
-  turn = n .before .before .before .before .before .before
+  turn = n .before .before .before .before
 
   abbrev first : tie.Start Inv-loop μ-loop
   first = s turn
@@ -185,8 +177,8 @@ module _ (n : tie.After-next-points Inv-loop μ-loop) where
   abbrev line₁ : List ℤ
   line₁ = n .next-points .last .0
 
-  count-is : n .before .before .before .before .run-length .result ≡ min 64 (length (turn .loop .out) - i turn)
-  count-is = n .before .before .before .before .run-length .ensures
+  count-is : n .before .before .run-length .result ≡ min 64 (length (turn .loop .out) - i turn)
+  count-is = n .before .before .run-length .ensures
 
   few : made ≤ 64
   few = le-trans (n .next-points .ensures .0 .1) (le-trans (le-of-eq count-is) (min-le-left 64 _))
@@ -203,44 +195,42 @@ module _ (n : tie.After-next-points Inv-loop μ-loop) where
   long = line-long (filled turn) (length-history (turn .before)) made few room line-e
 
   points-small : (k : ℕ) → natAbs (at line₁ k) ≤ 2 ^ 29
-  points-small = run-small (filled turn) (length-history (turn .before)) (book first) (first .pre .1 .0 .2) made line-e
+  points-small = run-small (filled turn) (length-history (turn .before)) (book first) (first .pre .1 .1) made line-e
 
 write-outputs-requires : tie.Need-write-outputs-requires Inv-loop μ-loop
 write-outputs-requires c κs =
-    let n = c .before .before .before .before in
+    let n = c .before .before .before in
     let a = turn n in
     let u = s a in (
-      (u .pre .1 .0 .0, c .before .before .before .before .before .before .before .before .before .before .before .before .before .before .decimation-taps .ensures, few n, omega (arith, room n, out-length a)),
+      (u .pre .1 .0 .book-accepted, c .before .before .before .before .before .before .before .before .before .before .before .decimation-taps .ensures, few n, omega (arith, room n, out-length a)),
       points-small n,
     )
 
 slice-aggregate-keep-newest : tie.Need-slice-aggregate-keep-newest Inv-loop μ-loop
-slice-aggregate-keep-newest c = sym (long (c .before .before .before .before .before .before .before))
+slice-aggregate-keep-newest c = sym (long (c .before .before .before .before .before .before))
 
 mul-keep-newest : tie.Need-mul-keep-newest Inv-loop μ-loop
-mul-keep-newest c = omega (arith, few (c .before .before .before .before .before .before .before))
+mul-keep-newest c = omega (arith, few (c .before .before .before .before .before .before))
 
 sub-keep-newest : tie.Need-sub-keep-newest Inv-loop μ-loop
-sub-keep-newest c = omega (arith, few (c .before .before .before .before .before .before .before))
+sub-keep-newest c = omega (arith, few (c .before .before .before .before .before .before))
 
 keep-newest-requires : tie.Need-keep-newest-requires Inv-loop μ-loop
-keep-newest-requires c κs = (long (c .before .before .before .before .before .before .before), omega arith)
+keep-newest-requires c κs = (long (c .before .before .before .before .before .before), omega arith)
 
 add-i : tie.Need-add-i Inv-loop μ-loop
-add-i c = let n = c .before .before .before .before .before .before .before .before .before .before in omega (arith, room n, out-fits (first n))
+add-i c = let n = c .before .before .before .before .before .before .before .before .before in omega (arith, room n, out-fits (first n))
 
 loop-less : tie.Need-loop-less Inv-loop μ-loop
-loop-less c = let n = c .before .before .before .before .before .before .before .before .before .before in omega (arith, room n, n .next-points .ensures .0 .0)
+loop-less c = let n = c .before .before .before .before .before .before .before .before .before in omega (arith, room n, n .next-points .ensures .0 .0)
 
 loop-again : tie.Need-loop-again Inv-loop μ-loop
 loop-again c =
-    let n = c .before .before .before .before .before .before .before .before .before .before in
+    let n = c .before .before .before .before .before .before .before .before .before in
     let a = turn n in
     let w = c .before .before .before .before .before in
-    let control : n .next-points .result .control ≡ controlAfter (sizesOf (b (first n)) .fade) (a .loop .control) (made n) = n .next-points .ensures .0 .2 ∙ ap (λ F. controlAfter F (a .loop .control) (made n)) (fade-is a) in (
-      n .next-points .ensures .0 .3,
-      filled-more (filled a) (length-history (a .before)) (made n) (few n) (room n) (line-e n) (points-small n) control (w .write-outputs .ensures) (c .before .before .keep-newest .ensures),
-    )
+    let control : n .next-points .result .control ≡ controlAfter (sizesOf (b (first n)) .fade) (a .loop .control) (made n) = n .next-points .ensures .0 .2 ∙ ap (λ F. controlAfter F (a .loop .control) (made n)) (fade-is a) in
+    filled-more (filled a) (length-history (a .before)) (made n) (few n) (room n) (line-e n) (points-small n) control (w .write-outputs .ensures) (c .before .before .keep-newest .ensures)
 
 history-of-requires : tie.Need-history-of-requires Inv-loop μ-loop
 history-of-requires c κs = filled (c .before) .small
@@ -271,16 +261,12 @@ fill-by-spec =
     (tie.spec
     Inv-loop
     μ-loop
-    read-sizes-requires
-    cast-fade
-    level-starts-requires
     decimation-taps-requires
     line-of-requires
     loop-holds
     sub-run-length
     run-length-requires
     slice-aggregate-next-points
-    slice-aggregate-next-points-2
     next-points-requires
     write-outputs-requires
     slice-aggregate-keep-newest

@@ -10,8 +10,8 @@ use mir.Syntax.{w64}
 use mir.Val.{SFits}
 use Rattle.arith.specs.Lists.{at, overwrite}
 use Rattle.arith.proofs.Bits.{reads}
-use Rattle.player.proofs.Filled.{tabulate-part}
-use Rattle.values.proofs.Newest.{newest, newest-none, newest-next, newest-before}
+use Rattle.arith.proofs.Parts.{tabulate-part}
+use Rattle.arith.proofs.Written.{newest, newest-none, newest-next, newest-before}
 use Rattle.player.proofs.outputs.keep_newest.Statement.{statement}
 use Rattle.player.proofs.outputs.keep_newest.Tie as tie
 

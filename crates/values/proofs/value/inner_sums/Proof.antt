@@ -9,7 +9,7 @@ use mir.Syntax.{w64}
 use mir.Val.{ofZ}
 use Rattle.arith.specs.Lists.{at, wordAt}
 use Rattle.arith.specs.Sum.{sum}
-use Rattle.levels.proofs.Around.{before-inside}
+use Rattle.book.proofs.Around.{before-inside}
 use Rattle.values.proofs.Steps.{impulseFrom, differenceFrom}
 use Rattle.values.proofs.Windows.{bound-small, limited-is, windowWord, windowTo, Turn, impulse-turn, difference-turn, impulses-all, differences-all}
 use Rattle.values.proofs.value.inner_sums.Statement.{statement}

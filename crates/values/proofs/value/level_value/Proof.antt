@@ -56,8 +56,8 @@ module _ (s : tie.Start) where
   abbrev rows : List ℤ
   rows = take (length book - (5 + phase * taps)) (drop (5 + phase * taps) book)
 
-  sound : Accepted book
-  sound = accepted book (s .pre .0 .0)
+  valid : Accepted book
+  valid = accepted book (s .pre .0 .0)
 
   taps-are : taps ≡ sizesOf book .taps
   taps-are = s .pre .0 .2
@@ -76,7 +76,7 @@ module _ (s : tie.Start) where
   scaled-low : scaled < 2 ^ 64
   scaled-low =
       let below : position % unit level ≤ 2 ^ 32 = omega (arith, mod-lt position (unit-pos level), unit-high) in
-      let h : position % unit level * sizesOf book .phases ≤ 2 ^ 32 * 128 = mul-le-mul below (sizes-bounded book sound .phases-high) in
+      let h : position % unit level * sizesOf book .phases ≤ 2 ^ 32 * 128 = mul-le-mul below (sizes-bounded book valid .phases-high) in
       omega (arith, scaled-is, h)
 
   phase-is : phase ≡ phaseAt book level position
@@ -100,9 +100,9 @@ module _ (s : tie.Start) where
   -- the phase's words lie in the book, and so do its differences
   room : (phase * taps + taps ≤ phases * taps) × (5 + phases * taps + phases * taps ≤ length book) × (phases * taps ≤ 3072)
   room =
-      let r = sizes-room book sound (sizesOf book) refl in
+      let r = sizes-room book valid (sizesOf book) refl in
       let e : phases * taps ≡ sizesOf book .phases * sizesOf book .taps = ap₂ (λ m n. m * n) phases-are taps-are in
-      let low : phase < phases = omega (arith, phase-is, phase-below book sound level position, phases-are) in
+      let low : phase < phases = omega (arith, phase-is, phase-below book valid level position, phases-are) in
       let h : suc phase * taps ≤ phases * taps = mul-le-mul-right taps low in
       (omega arith, omega (arith, r .0), omega (arith, r .1))
 
@@ -115,7 +115,7 @@ module _ (s : tie.Start) where
   rows-length = part-length book (5 + phase * taps) (length book - (5 + phase * taps)) (omega (arith, room))
 
   rows-small : (k : ℕ) → natAbs (at rows k) ≤ 65536
-  rows-small k = rw rows-are (row-small book sound (5 + phaseAt book level position * sizesOf book .taps) k (omega arith))
+  rows-small k = rw rows-are (row-small book valid (5 + phaseAt book level position * sizesOf book .taps) k (omega arith))
 
 -- the sums
 module _ (c : tie.After-window-sums) where
@@ -134,10 +134,10 @@ module _ (c : tie.After-window-sums) where
   word-high = pow-mono {j = 27} (omega arith)
 
   impulses-small : natAbs (c .window-sums .result .impulses) ≤ 2 ^ 44
-  impulses-small = rw impulses-are (omega (arith, impulseSum-bound (book s) (sound s) (words s) (level s) (position s), word-high))
+  impulses-small = rw impulses-are (omega (arith, impulseSum-bound (book s) (valid s) (words s) (level s) (position s), word-high))
 
   differences-small : natAbs (c .window-sums .result .differences) ≤ 2 ^ 45
-  differences-small = rw differences-are (omega (arith, differenceSum-bound (book s) (sound s) (words s) (level s) (position s), word-high))
+  differences-small = rw differences-are (omega (arith, differenceSum-bound (book s) (valid s) (words s) (level s) (position s), word-high))
 
   impulses-fit : SFits w64 (c .window-sums .result .impulses)
   impulses-fit = abs-fits w64 (c .window-sums .result .impulses) (omega (arith, impulses-small))
@@ -153,7 +153,7 @@ module _ (c : tie.After-mixed) where
   result-is : c .mixed .result ≡ levelValue (book (s w)) (words (s w)) (level (s w)) (position (s w))
   unfolding unit
   result-is =
-      let value = levelValue-split (book (s w)) (sound (s w)) (words (s w)) (level (s w)) (position (s w)) in
+      let value = levelValue-split (book (s w)) (valid (s w)) (words (s w)) (level (s w)) (position (s w)) in
       (simp (reads, impulses-fit w, differences-fit w) at (c .mixed .ensures)) ∙ value (impulses-are w) (differences-are w) (offset-is (s w))
 
   result-wide : SFits w64 (c .mixed .result)
@@ -162,7 +162,7 @@ module _ (c : tie.After-mixed) where
   result-fits : SFits w32 (c .mixed .result)
   result-fits =
       let h : 2 ^ (25 + level (s w)) ≤ 2 ^ 29 = pow-mono {j = 29} (omega arith) in
-      abs-fits w32 (c .mixed .result) (rw result-is (omega (arith, levelValue-bound (book (s w)) (sound (s w)) (words (s w)) (level (s w)) (position (s w)))))
+      abs-fits w32 (c .mixed .result) (rw result-is (omega (arith, levelValue-bound (book (s w)) (valid (s w)) (words (s w)) (level (s w)) (position (s w)))))
 
 add-shift : tie.Need-add-shift
 add-shift c = search needs
@@ -227,7 +227,7 @@ add-first c = omega (arith, first-high (c .before))
 window-sums-requires : tie.Need-window-sums-requires
 window-sums-requires c κs =
     let s = c .before in
-    let f = sizes-bounded (book s) (sound s) in (
+    let f = sizes-bounded (book s) (valid s) in (
       (
         s .pre .1 .0,
         omega (arith, taps-are s, f .taps-high),

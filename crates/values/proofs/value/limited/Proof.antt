@@ -10,7 +10,7 @@ use mir.Facts.{sfits-widen}
 use Rattle.arith.proofs.Bits.{reads}
 use Rattle.arith.proofs.Linear.{abs-neg}
 use Rattle.arith.proofs.Integers.{abs-fits}
-use Rattle.values.specs.Values.{limit}
+use Rattle.arith.specs.Limit.{limit}
 use Rattle.values.proofs.value.limited.Statement.{statement}
 use Rattle.values.proofs.value.limited.Tie as tie
 

@@ -8,7 +8,7 @@ use mir.Val.{SFits}
 use Rattle.arith.specs.Lists.{at}
 use Rattle.arith.proofs.Bits.{reads}
 use Rattle.arith.proofs.Lists.{at-outside}
-use Rattle.levels.proofs.Around.{before-inside, before-outside}
+use Rattle.book.proofs.Around.{before-inside, before-outside}
 use Rattle.values.proofs.value.word_at.Statement.{statement}
 use Rattle.values.proofs.value.word_at.Tie as tie
 

@@ -1,0 +1,4 @@
+pub mod Rate
+pub mod Moves
+pub mod Orders
+pub mod Valid

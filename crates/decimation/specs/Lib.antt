@@ -1,0 +1,2 @@
+pub mod Decimation
+pub mod Inner

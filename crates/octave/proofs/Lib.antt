@@ -1,0 +1,2 @@
+pub mod Octave
+pub mod GroupSums

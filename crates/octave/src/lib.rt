@@ -1,0 +1,119 @@
+// An octave level from the one below it: each word is a sum over the level taps, centred on every second word.
+
+ghost use mathlib.Core.Path.{_≡_};
+ghost use Prim.Native.Nat.{ℕ, _+_, _*_, _^_, _≤_, _<_, pred};
+ghost use lib.IntN.{pos, natAbs, _+ℤ_, _-ℤ_, _*ℤ_};
+ghost use lib.ListN.{length};
+ghost use Rattle.arith.specs.Lists.{at, wordAt, part, overwrite};
+ghost use Rattle.arith.specs.Sum.{sumAround};
+ghost use Rattle.book.specs.Check.{tapSum};
+ghost use Rattle.octave.specs.Octave.{halfLength, levelWord, nextLevel};
+use crate::groups::write_group;
+use crate::sums::first_product;
+use crate::sums::with_tap;
+
+mod groups; // several words of a level at a time
+mod sums; // a sum around a word, tap by tap
+
+// Half of a length, rounded up.
+pub fn half_length(n: usize) -> usize
+    ensures { λ r. ⌜ r ≡ halfLength n ⌝ }
+{
+    n - n / 2
+}
+
+// The sum of taps times words around word `centre`, where all of it lies inside the level: no word is tested. Two taps in a turn, which
+// the compiler turns into faster code than one.
+fn centred_sum(level: &[i32], taps: &[i32], centre: usize) -> i64
+    requires { ⌜ (1 ≤ length (now taps)) × (tapSum (now taps) ≤ 32768) × (length (now taps) ≤ centre + 1) × (centre + length (now taps) ≤ length (now level)) ⌝ }
+    requires { ⌜ ((k : ℕ) → natAbs (at (now level) k) ≤ 2 ^ 29) ⌝ }
+    ensures { λ r. ⌜ r ≡ sumAround (pred (length (now (taps .entry)))) (λ k. at (now (taps .entry)) (natAbs k) *ℤ wordAt (now (level .entry)) (pos centre +ℤ k)) ⌝ }
+{
+    let mut sum = first_product(level, taps, centre);
+    let mut k = 1;
+    while k + 1 < taps.len() {
+        let one = with_tap(level, taps, k, centre - k, centre + k, sum);
+        sum = with_tap(level, taps, k + 1, centre - k - 1, centre + k + 1, one);
+        k += 2;
+    }
+    if k < taps.len() {
+        return with_tap(level, taps, k, centre - k, centre + k, sum);
+    }
+    sum
+}
+
+// Word `centre` − k, or 0 before the level.
+fn word_before(level: &[i32], centre: usize, k: usize) -> i64
+    requires { ⌜ centre < length (now level) ⌝ }
+    ensures { λ r. ⌜ r ≡ wordAt (now (level .entry)) (pos centre -ℤ pos k) ⌝ }
+{
+    if k <= centre {
+        level[centre - k] as i64
+    } else {
+        0
+    }
+}
+
+// Word `centre` + k, or 0 after the level.
+fn word_after(level: &[i32], centre: usize, k: usize) -> i64
+    requires { ⌜ (centre < length (now level)) × (k ≤ 41) ⌝ }
+    ensures { λ r. ⌜ r ≡ wordAt (now (level .entry)) (pos centre +ℤ pos k) ⌝ }
+{
+    if k < level.len() - centre {
+        level[centre + k] as i64
+    } else {
+        0
+    }
+}
+
+// The same sum near an edge, words outside the level being 0.
+fn edge_sum(level: &[i32], taps: &[i32], centre: usize) -> i64
+    requires { ⌜ (1 ≤ length (now taps)) × (length (now taps) ≤ 41) × (tapSum (now taps) ≤ 32768) × (centre < length (now level)) ⌝ }
+    requires { ⌜ ((k : ℕ) → natAbs (at (now level) k) ≤ 2 ^ 29) ⌝ }
+    ensures { λ r. ⌜ r ≡ sumAround (pred (length (now (taps .entry)))) (λ k. at (now (taps .entry)) (natAbs k) *ℤ wordAt (now (level .entry)) (pos centre +ℤ k)) ⌝ }
+{
+    let mut sum = first_product(level, taps, centre);
+    let mut k = 1;
+    while k < taps.len() {
+        sum += taps[k] as i64 * (word_before(level, centre, k) + word_after(level, centre, k));
+        k += 1;
+    }
+    sum
+}
+
+// Word n of the level above.
+fn level_word(level: &[i32], taps: &[i32], n: usize) -> i32
+    requires { ⌜ (1 ≤ length (now taps)) × (length (now taps) ≤ 41) × (tapSum (now taps) ≤ 32768) × (2 * n < length (now level)) ⌝ }
+    requires { ⌜ ((k : ℕ) → natAbs (at (now level) k) ≤ 2 ^ 26) ⌝ }
+    ensures { λ r. ⌜ r ≡ levelWord (now (taps .entry)) (now (level .entry)) n ⌝ }
+{
+    let centre = 2 * n;
+    let reach = taps.len() - 1;
+    if reach <= centre {
+        if reach < level.len() - centre {
+            return arith::near(centred_sum(level, taps, centre), 16384) as i32;
+        }
+    }
+    arith::near(edge_sum(level, taps, centre), 16384) as i32
+}
+
+// Writes the level above the `words` words from place `start` on behind them.
+pub fn next_level(taps: &[i32], store: &mut [i32], start: usize, words: usize)
+    requires { ⌜ (1 ≤ length (now taps)) × (length (now taps) ≤ 41) × (tapSum (now taps) ≤ 32768) × (start + words + halfLength words ≤ length (now store)) ⌝ }
+    requires { ⌜ ((k : ℕ) → natAbs (at (part (now store) start words) k) ≤ 2 ^ 26) ⌝ }
+    ensures { λ _. ⌜ now (store .exit) ≡ overwrite (now (store .entry)) (start + words) (nextLevel (now (taps .entry)) (part (now (store .entry)) start words)) ⌝ }
+{
+    let next = start + words;
+    let half = half_length(words);
+    let mut n = 0;
+    while n < half {
+        if taps.len() <= 2 * n + 1 && 2 * n + taps.len() + 30 <= words {
+            write_group(taps, store, start, words, n);
+            n += 16;
+        } else {
+            let x = level_word(&store[start..next], taps, n);
+            store[next + n] = x;
+            n += 1;
+        }
+    }
+}

@@ -1,0 +1,75 @@
+-- The laws of points: what a plan reads, how large a point is, and the point of a plan without a fade. Assumes nothing.
+use mathlib.Core.Bool.{Bool, true, false, cond}
+use mathlib.Core.Path.{_≡_, refl}
+use mathlib.Core.List.{List}
+use Prim.Native.Nat.{ℕ, _+_, _-_, _^_, _≤_}
+use native.Mathlib.Omega.{arith}
+use lib.Dec.{eqb}
+use lib.IntN.{ℤ, pos, natAbs, _+ℤ_, _*ℤ_}
+use Rattle.arith.specs.Floor.{near}
+use Rattle.arith.proofs.Linear.{abs-*}
+use Rattle.arith.proofs.Integers.{abs-triangle}
+use Rattle.arith.proofs.Floor.{near-bound}
+use Rattle.book.specs.Book.{sizesOf}
+use Rattle.book.proofs.Accepted.{Accepted, sizes-bounded}
+use Rattle.values.specs.Values.{value, storeLevel, levelValue}
+use Rattle.values.proofs.Values.{mean-≤, value-small}
+use Rattle.control.specs.declared.Plan.{Plan}
+use Rattle.points.specs.Points.{point}
+use Rattle.values.specs.declared.layout.Layout.{Layout}
+use Rattle.values.specs.Layout.{LayoutOf}
+use Rattle.values.proofs.Layouts.{fewer-levels}
+use Rattle.control.specs.declared.Control.{Control}
+use Rattle.control.specs.Moves.{pointPlan}
+use Rattle.control.specs.Valid.{Valid}
+use Rattle.positions.specs.Runs.{steadyPlan}
+use Rattle.control.proofs.Kept.{plan-old, plan-new, plan-step, plan-position}
+
+-- ---- what a point reads: levels that the store has room for, i up to F, P up to 2^60
+
+pub plan-read : {F : ℕ} {c : Control} {b store : List ℤ} {l : Layout} → Valid F c → LayoutOf b store (c .top) l → (p : Plan) → p ≡ pointPlan c
+    → (LayoutOf b store (p .old) l × LayoutOf b store (p .new) l) × ((p .old ≤ 4) × (p .new ≤ 4) × (p .step ≤ F) × (p .position ≤ 2 ^ 60))
+plan-read s o p e =
+    rw e (
+      (fewer-levels o (plan-old s), fewer-levels o (plan-new s)),
+      (omega (arith, plan-old s, s .top-high), omega (arith, plan-new s, s .top-high), plan-step s, plan-position s),
+    )
+
+-- ---- how large a point is
+
+-- a point is a value or a mean of two
+pub point-bound : (b : List ℤ) → Accepted b → (store : List ℤ) (S : ℕ) (p : Plan) → p .old ≤ 4 → p .new ≤ 4 → p .step ≤ sizesOf b .fade → natAbs (point b store S p) ≤ 2 ^ 29
+unfolding point
+point-bound b a store S p h k m = go (eqb (p .step) 0)
+  where
+    old : ℤ
+    old = value b store S (p .old) (p .position)
+
+    new : ℤ
+    new = value b store S (p .new) (p .position)
+
+    F : ℕ
+    F = sizesOf b .fade
+
+    go : (t : Bool) → natAbs (cond t old (near (pos (F - p .step) *ℤ old +ℤ pos (p .step) *ℤ new) F)) ≤ 2 ^ 29
+    go true = value-small b a store S (p .old) (p .position) h
+    go false =
+        let r = F - p .step in
+        let mixed = pos r *ℤ old +ℤ pos (p .step) *ℤ new in
+        near-bound mixed (sizes-bounded b a .fade-low) (2 ^ 29) (omega (
+          arith,
+          abs-triangle (pos r *ℤ old) (pos (p .step) *ℤ new),
+          abs-* (pos r) old,
+          abs-* (pos (p .step)) new,
+          mean-≤ r (p .step) (value-small b a store S (p .old) (p .position) h) (value-small b a store S (p .new) (p .position) k),
+        ))
+
+-- a valid control's point
+pub point-small : (b store : List ℤ) (S : ℕ) → Accepted b → {c : Control} → Valid (sizesOf b .fade) c → natAbs (point b store S (pointPlan c)) ≤ 2 ^ 29
+point-small b store S a {c} s = point-bound b a store S (pointPlan c) (omega (arith, plan-old s, s .top-high)) (omega (arith, plan-new s, s .top-high)) (plan-step s)
+
+-- ---- without a fade
+
+pub steady-point : (b store : List ℤ) (S l P : ℕ) → point b store S (steadyPlan l P) ≡ value b store S l P
+unfolding point
+steady-point b store S l P = refl

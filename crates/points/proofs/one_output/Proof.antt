@@ -1,0 +1,180 @@
+-- `points::one_output` meets its contract: the steps of one output, put together. Assumes nothing.
+use borrow.Author.Needs.{needs}
+use mathlib.Core.Path.{_≡_, refl, ap, _∙_}
+use mathlib.Core.List.{List, [], _∷_}
+use Prim.Native.Nat.{ℕ, _+_, _^_, _≤_, _<_}
+use native.Mathlib.Omega.{arith}
+use lib.IntN.{ℤ, pos}
+use lib.ListN.{length, set}
+use mir.Syntax.{w32}
+use mir.Val.{SFits}
+use mir.Facts.{sfits-widen}
+use Rattle.arith.specs.Lists.{overwrite}
+use Rattle.arith.proofs.Bits.{reads}
+use Rattle.arith.proofs.Lists.{paste-none, paste-more, paste-all}
+use Rattle.book.proofs.Accepted.{accepted, sizes-bounded}
+use Rattle.values.specs.Layout.{LayoutOf}
+use Rattle.control.specs.declared.Control.{Control}
+use Rattle.control.specs.declared.Plan.{Plan}
+use Rattle.control.specs.Moves.{moveGlide, pointPlan, movePoint, moveOutput}
+use Rattle.points.specs.Points.{point}
+use Rattle.control.specs.Valid.{Valid}
+use Rattle.positions.specs.Runs.{controlAfter}
+use Rattle.points.specs.Runs.{runPoints}
+use Rattle.control.proofs.Kept.{moveGlide-valid, moveGlide-top, movePoint-valid, movePoint-top}
+use Rattle.points.proofs.Points.{plan-read}
+use Rattle.points.proofs.one_output.Statement.{statement}
+use Rattle.points.proofs.one_output.Tie as tie
+
+-- the steps of the code, put together
+control-is : (F : ℕ) (c : Control) {one two last : Control} → one ≡ moveGlide c → two ≡ movePoint F one → last ≡ movePoint F two → last ≡ controlAfter F c 1
+unfolding controlAfter moveOutput
+control-is F c one two last = cc
+
+points-are : (make : Plan → ℤ) (F : ℕ) (c : Control) {one two : Control} {plan₁ plan₂ : Plan} {x y : ℤ} → one ≡ moveGlide c → plan₁ ≡ pointPlan one → x ≡ make plan₁
+    → two ≡ movePoint F one → plan₂ ≡ pointPlan two → y ≡ make plan₂ → y ∷ x ∷ [] ≡ runPoints make F c 1
+unfolding runPoints controlAfter
+points-are make F c one plan₁ x two plan₂ y = cc
+
+-- two words, written one after the other
+two-written : (line : List ℤ) (x y : ℤ) → 128 ≤ length line → set (set line 126 y) 127 x ≡ overwrite line 126 (y ∷ x ∷ [])
+two-written line x y h =
+    let words = y ∷ x ∷ [] in
+    ap (λ l. set (set l 126 y) 127 x) (paste-none line 126 words)
+    ∙ ap (λ l. set l 127 x) (paste-more line 126 words 0 (pos 0) y (omega arith) (omega arith) refl)
+    ∙ paste-more line 126 words 1 (pos 0) x (omega arith) (omega arith) refl
+    ∙ paste-all line 126 words 2 refl
+
+module _ (s : tie.Start) where
+  abbrev b : List ℤ
+  b = s .args .book .now
+
+  abbrev F : ℕ
+  F = s .args .layout .fade
+
+  fade-small : F ≤ 256
+  fade-small = omega (arith, s .pre .0 .fade, sizes-bounded b (accepted b (s .pre .0 .book-accepted)) .fade-high)
+
+  -- a valid control whose levels lie in the store
+  abbrev Ready : Control → Type 0
+  Ready c = Valid F c × LayoutOf b (s .args .store .now) (c .top) (s .args .layout)
+
+  glide-ready : {c d : Control} → Ready c → d ≡ moveGlide c → Ready d
+  glide-ready {c} r e = rw e (moveGlide-valid (r .0), rw (moveGlide-top c) (r .1))
+
+  point-ready : {c d : Control} → Ready c → d ≡ movePoint F c → Ready d
+  point-ready {c} r e = rw e (movePoint-valid (r .0), rw (movePoint-top F c) (r .1))
+
+  step-small : {c : Control} → Ready c → c .fade .step < 2 ^ 31
+  step-small r = omega (arith, r .0 .step-low, fade-small)
+
+glide-moved-requires : tie.Need-glide-moved-requires
+glide-moved-requires c κs = search needs
+
+-- ---- the first point
+
+module _ (c : tie.After-glide-moved) where
+  abbrev start : tie.Start
+  start = c .before
+
+  abbrev control : Control
+  control = start .args .c
+
+  one-is : c .glide-moved .result ≡ moveGlide control
+  one-is = c .glide-moved .ensures
+
+  one-ready : Ready start (c .glide-moved .result)
+  one-ready = glide-ready start (start .pre .1, start .pre .0) one-is
+
+point-plan-requires : tie.Need-point-plan-requires
+point-plan-requires c κs = step-small (start c) (one-ready c)
+
+point-of-requires : tie.Need-point-of-requires
+point-of-requires c κs =
+    let o = c .before in
+    let r = one-ready o in
+    plan-read (r .0) (r .1) (c .point-plan .result) (c .point-plan .ensures)
+
+point-moved-requires : tie.Need-point-moved-requires
+point-moved-requires c κs = let o = c .before .before in step-small (start o) (one-ready o)
+
+-- ---- the second point
+
+module _ (c : tie.After-point-moved) where
+  abbrev one : tie.After-glide-moved
+  one = c .before .before .before
+
+  two-is : c .point-moved .result ≡ movePoint (F (start one)) (one .glide-moved .result)
+  two-is = c .point-moved .ensures
+
+  two-ready : Ready (start one) (c .point-moved .result)
+  two-ready = point-ready (start one) (one-ready one) two-is
+
+point-plan-requires-2 : tie.Need-point-plan-requires-2
+point-plan-requires-2 c κs = step-small (start (one c)) (two-ready c)
+
+point-of-requires-2 : tie.Need-point-of-requires-2
+point-of-requires-2 c κs =
+    let t = c .before in
+    let r = two-ready t in
+    plan-read (r .0) (r .1) (c .point-plan2 .result) (c .point-plan2 .ensures)
+
+-- ---- both together
+
+first-fits : (c : tie.After-point-of) → SFits w32 (c .point-of .result)
+first-fits c = record { sfits = c .point-of .ok }
+
+second-fits : (c : tie.After-point-of2) → SFits w32 (c .point-of2 .result)
+second-fits c = record { sfits = c .point-of2 .ok }
+
+cast-line : tie.Need-cast-line
+cast-line c = simp (reads, second-fits c) (sfits-widen tt (second-fits c))
+
+slice-set-from-line : tie.Need-slice-set-from-line
+slice-set-from-line c = search needs
+
+cast-line-2 : tie.Need-cast-line-2
+cast-line-2 c = let f = first-fits (c .before .before .before) in simp (reads, f) (sfits-widen tt f)
+
+slice-set-from-line-2 : tie.Need-slice-set-from-line-2
+slice-set-from-line-2 c = search needs
+
+point-moved-requires-2 : tie.Need-point-moved-requires-2
+point-moved-requires-2 c κs = let t = c .before .before in step-small (start (one t)) (two-ready t)
+
+same-length : tie.Need-same-length
+same-length c = search needs
+
+returns : tie.Need-returns
+returns c =
+    let p₂ = c .before in
+    let t = p₂ .before .before in
+    let p₁ = t .before in
+    let o = one t in
+    let s = start o in
+    let line = s .args .line .now in
+    let make = point (b s) (s .args .store .now) (s .args .layout .recorded) in
+    let written = two-written line (p₁ .point-of .result) (p₂ .point-of2 .result) (omega arith) in
+    let points = points-are make (F s) (s .args .c) (one-is o) (p₁ .before .point-plan .ensures) (p₁ .point-of .ensures) (two-is t) (p₂ .before .point-plan2 .ensures) (p₂ .point-of2 .ensures) in (
+      refl,
+      control-is (F s) (s .args .c) (one-is o) (two-is t) (c .point-moved2 .ensures),
+      simp (reads, first-fits p₁, second-fits p₂) (written ∙ ap (overwrite line 126) points),
+    )
+
+pub one-output-spec : {M : Type 1} → statement M
+one-output-spec =
+    tie.close
+    (tie.spec
+    glide-moved-requires
+    point-plan-requires
+    point-of-requires
+    point-moved-requires
+    point-plan-requires-2
+    point-of-requires-2
+    cast-line
+    slice-set-from-line
+    cast-line-2
+    slice-set-from-line-2
+    point-moved-requires-2
+    same-length
+    returns)

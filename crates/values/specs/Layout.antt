@@ -1,0 +1,24 @@
+-- Where the parts of a book and a store lie that a play is lent, as a record that is made once per call says it.
+use mathlib.Core.List.{List}
+use mathlib.Core.Path.{_≡_}
+use Prim.Native.Nat.{ℕ, _+_, _≤_, _<_}
+use lib.IntN.{ℤ}
+use lib.ListN.{length, getD}
+use Rattle.book.specs.Book.{sizesOf}
+use Rattle.book.specs.Check.{bookNumber}
+use Rattle.levels.specs.Sizes.{levelStart}
+use Rattle.values.specs.declared.layout.Layout.{Layout}
+
+-- the places are those of the levels of as many samples, and the store has room for levels 0..T
+pub record LevelsIn (store : List ℤ) (T : ℕ) (l : Layout) : Type 0 where
+  pub recorded-high : l .recorded ≤ 1048576
+  pub starts : (j : ℕ) → j < 6 → getD (l .starts) j 0 ≡ levelStart (l .recorded) j
+  pub room : levelStart (l .recorded) (T + 1) ≤ length store
+
+-- and the sizes are those of an accepted book
+pub record LayoutOf (b store : List ℤ) (T : ℕ) (l : Layout) : Type 0 where
+  pub book-accepted : bookNumber b ≡ 0
+  pub taps : l .taps ≡ sizesOf b .taps
+  pub phases : l .phases ≡ sizesOf b .phases
+  pub fade : l .fade ≡ sizesOf b .fade
+  pub levels : LevelsIn store T l

@@ -1,0 +1,5 @@
+pub mod Staged
+pub mod RowSums
+pub mod RaisedSums
+pub mod Tables
+pub mod Totals
