@@ -19,6 +19,7 @@ use control::moves::point_plan;
 use positions::Run;
 use positions::steady_positions;
 use values::layout::Layout;
+use values::layout::level_words;
 use windows::window::steady_points;
 
 mod point; // a point from its plan
@@ -30,9 +31,23 @@ fn one_output(line: &mut [i64], c: Control, book: &[i32], store: &[i32], layout:
 {
     let fade = layout.fade;
     let one = glide_moved(c);
-    let first = point_of(book, store, layout, point_plan(one));
+    let p = point_plan(one);
+    let first = point_of(
+        book,
+        layout,
+        level_words(store, layout, p.old),
+        level_words(store, layout, p.new),
+        p,
+    );
     let two = point_moved(one, fade);
-    let second = point_of(book, store, layout, point_plan(two));
+    let q = point_plan(two);
+    let second = point_of(
+        book,
+        layout,
+        level_words(store, layout, q.old),
+        level_words(store, layout, q.new),
+        q,
+    );
     line[126] = second as i64;
     line[127] = first as i64;
     let control = point_moved(two, fade);

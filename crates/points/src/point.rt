@@ -4,11 +4,12 @@ ghost use mathlib.Core.Path.{_≡_};
 ghost use Prim.Native.Nat.{_-_, _^_, _≤_};
 ghost use lib.IntN.{pos, natAbs, _+ℤ_, _*ℤ_};
 ghost use Rattle.arith.specs.Floor.{near};
-ghost use Rattle.values.specs.Layout.{LayoutOf};
-ghost use Rattle.points.specs.Points.{point};
+ghost use lib.ListN.{length};
+ghost use Rattle.values.specs.Layout.{SizesIn};
+ghost use Rattle.points.specs.Inner.{levelsPoint};
 use control::Plan;
 use values::layout::Layout;
-use values::value::store_value;
+use values::value::level_value;
 
 // A weighted mean of two values, rounded: near(((F − i) × old + i × new) / F).
 fn faded(old: i32, new: i32, step: u32, fade: u32) -> i32
@@ -19,16 +20,18 @@ fn faded(old: i32, new: i32, step: u32, fade: u32) -> i32
     arith::near(sum, fade as i64) as i32
 }
 
-// A point from its plan.
-pub fn point_of(book: &[i32], store: &[i32], layout: Layout, p: Plan) -> i32
-    requires { ⌜ LayoutOf (now book) (now store) (p .old) layout × LayoutOf (now book) (now store) (p .new) layout ⌝ }
+// A point from its plan and the words of its two levels.
+pub fn point_of(book: &[i32], layout: Layout, old: &[i32], new: &[i32], p: Plan) -> i32
+    requires { ⌜ SizesIn (now book) layout × (length (now old) ≤ 1048576) × (length (now new) ≤ 1048576) ⌝ }
     requires { ⌜ (p .old ≤ 4) × (p .new ≤ 4) × (p .step ≤ layout .fade) × (p .position ≤ 2 ^ 60) ⌝ }
-    ensures { λ r. ⌜ r ≡ point (now (book .entry)) (now (store .entry)) (layout .recorded) p ⌝ }
+    ensures { λ r. ⌜ r ≡ levelsPoint (now (book .entry)) (now (old .entry)) (now (new .entry)) p ⌝ }
 {
-    let old = store_value(book, store, layout, p.old, p.position);
+    let phases = layout.phases;
+    let taps = layout.taps;
+    let from = level_value(book, phases, taps, old, p.old, p.position);
     if p.step == 0 {
-        return old;
+        return from;
     }
-    let new = store_value(book, store, layout, p.new, p.position);
-    faded(old, new, p.step, layout.fade)
+    let to = level_value(book, phases, taps, new, p.new, p.position);
+    faded(from, to, p.step, layout.fade)
 }

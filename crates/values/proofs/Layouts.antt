@@ -21,13 +21,7 @@ start-mono S {j} {T} h = rw (add-one j, add-one T) (storeLength-mono S h)
 pub fewer-levels : {b store : List ℤ} {T j : ℕ} {l : Layout} → LayoutOf b store T l → j ≤ T → LayoutOf b store j l
 fewer-levels {b} {store} {T} {j} {l} o h =
     let levels = o .levels in
-    record {
-      book-accepted = o .book-accepted;
-      taps = o .taps;
-      phases = o .phases;
-      fade = o .fade;
-      levels = record { recorded-high = levels .recorded-high; starts = levels .starts; room = le-trans (start-mono (l .recorded) h) (levels .room) };
-    }
+    record { sizes = o .sizes; levels = record { recorded-high = levels .recorded-high; starts = levels .starts; room = le-trans (start-mono (l .recorded) h) (levels .room) } }
 
 -- the words between the place of a level and the next one's
 module _ {store : List ℤ} {level : ℕ} {l : Layout} (low : level ≤ 4) (levels : LevelsIn store level l) where

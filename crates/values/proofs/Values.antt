@@ -152,11 +152,10 @@ levelValue-bound b a words l P =
     let h : natAbs s ≤ 65536 * unit l * 2 ^ (23 + l) = valueSum-bound b a (limitedWord words l) (2 ^ (23 + l)) l P (limitedWord-bound words l) in
     near-bound s {b = 16384 * unit l} (omega (arith, unit-pos l)) (2 ^ (25 + l)) (rw four (omega arith))
 
-module _ (b : List ℤ) (a : Accepted b) (store : List ℤ) (S : ℕ) where
-  pub value-bound : (l P : ℕ) → natAbs (value b store S l P) ≤ 2 ^ (25 + l)
-  unfolding value
-  value-bound l P = levelValue-bound b a (storeLevel store S l) l P
+-- of the levels that there are
+pub levelValue-small : (b : List ℤ) → Accepted b → (words : List ℤ) (l P : ℕ) → l ≤ 4 → natAbs (levelValue b words l P) ≤ 2 ^ 29
+levelValue-small b a words l P h = le-trans (levelValue-bound b a words l P) (pow-mono {j = 29} (omega arith))
 
-  -- of the levels that there are
-  pub value-small : (l P : ℕ) → l ≤ 4 → natAbs (value b store S l P) ≤ 2 ^ 29
-  value-small l P h = le-trans (value-bound l P) (pow-mono {j = 29} (omega arith))
+pub value-small : (b : List ℤ) → Accepted b → (store : List ℤ) (S l P : ℕ) → l ≤ 4 → natAbs (value b store S l P) ≤ 2 ^ 29
+unfolding value
+value-small b a store S l P h = levelValue-small b a (storeLevel store S l) l P h

@@ -15,10 +15,14 @@ pub record LevelsIn (store : List ℤ) (T : ℕ) (l : Layout) : Type 0 where
   pub starts : (j : ℕ) → j < 6 → getD (l .starts) j 0 ≡ levelStart (l .recorded) j
   pub room : levelStart (l .recorded) (T + 1) ≤ length store
 
--- and the sizes are those of an accepted book
-pub record LayoutOf (b store : List ℤ) (T : ℕ) (l : Layout) : Type 0 where
+-- the sizes are those of an accepted book
+pub record SizesIn (b : List ℤ) (l : Layout) : Type 0 where
   pub book-accepted : bookNumber b ≡ 0
   pub taps : l .taps ≡ sizesOf b .taps
   pub phases : l .phases ≡ sizesOf b .phases
   pub fade : l .fade ≡ sizesOf b .fade
+
+-- a layout says both of the book and the store that it was made from
+pub record LayoutOf (b store : List ℤ) (T : ℕ) (l : Layout) : Type 0 where
+  pub sizes : SizesIn b l
   pub levels : LevelsIn store T l

@@ -46,9 +46,8 @@ pub fn level_words(store: &[i32], layout: Layout, level: u32) -> &[i32]
     requires { ⌜ (level ≤ 4) × LevelsIn (now store) level layout ⌝ }
     ensures { λ r. ⌜ (now r ≡ storeLevel (now (store .entry)) (layout .recorded) level) × (length (now r) ≤ 1048576) ⌝ }
 {
-    let starts = layout.starts;
     let l = level as usize;
-    let start = starts[l];
-    let end = starts[l + 1];
+    let start = layout.starts[l];
+    let end = layout.starts[l + 1];
     &store[start..end]
 }

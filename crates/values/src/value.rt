@@ -10,10 +10,7 @@ ghost use Rattle.book.specs.Book.{sizesOf};
 ghost use Rattle.book.specs.Check.{bookNumber};
 ghost use Rattle.arith.specs.Limit.{limit};
 ghost use Rattle.values.specs.Values.{levelValue, value};
-ghost use Rattle.values.specs.Layout.{LayoutOf};
 ghost use Rattle.values.specs.Inner.{windowSum, restOf};
-use crate::layout::Layout;
-use crate::layout::level_words;
 
 // The sums of a level's words times impulses, and times differences.
 pub struct Sums {
@@ -160,7 +157,7 @@ fn has_rest(whole: i64, n: u32, tail: i64) -> i64
 }
 
 // The value of a level at a position. `words` are the level's words; the book has `phases` phases of `taps` taps.
-fn level_value(
+pub fn level_value(
     book: &[i32],
     phases: usize,
     taps: usize,
@@ -207,13 +204,4 @@ fn window_sums(
         }
     }
     edge_sums(rows, gap, words, level, first, half as u64, taps)
-}
-
-// The value of a level of a store.
-pub fn store_value(book: &[i32], store: &[i32], layout: Layout, level: u32, position: u64) -> i32
-    requires { ⌜ LayoutOf (now book) (now store) level layout × (level ≤ 4) × (position ≤ 2 ^ 60) ⌝ }
-    ensures { λ r. ⌜ r ≡ value (now (book .entry)) (now (store .entry)) (layout .recorded) level position ⌝ }
-{
-    let words = level_words(store, layout, level);
-    level_value(book, layout.phases, layout.taps, words, level, position)
 }

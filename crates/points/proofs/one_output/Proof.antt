@@ -1,6 +1,6 @@
 -- `points::one_output` meets its contract: the steps of one output, put together. Assumes nothing.
 use borrow.Author.Needs.{needs}
-use mathlib.Core.Path.{_≡_, refl, ap, _∙_}
+use mathlib.Core.Path.{_≡_, refl, ap, ap₂, _∙_}
 use mathlib.Core.List.{List, [], _∷_}
 use Prim.Native.Nat.{ℕ, _+_, _^_, _≤_, _<_}
 use native.Mathlib.Omega.{arith}
@@ -18,6 +18,8 @@ use Rattle.control.specs.declared.Control.{Control}
 use Rattle.control.specs.declared.Plan.{Plan}
 use Rattle.control.specs.Moves.{moveGlide, pointPlan, movePoint, moveOutput}
 use Rattle.points.specs.Points.{point}
+use Rattle.points.specs.Inner.{levelsPoint}
+use Rattle.values.specs.Values.{storeLevel, value}
 use Rattle.control.specs.Valid.{Valid}
 use Rattle.positions.specs.Runs.{controlAfter}
 use Rattle.points.specs.Runs.{runPoints}
@@ -53,7 +55,7 @@ module _ (s : tie.Start) where
   F = s .args .layout .fade
 
   fade-small : F ≤ 256
-  fade-small = omega (arith, s .pre .0 .fade, sizes-bounded b (accepted b (s .pre .0 .book-accepted)) .fade-high)
+  fade-small = omega (arith, s .pre .0 .sizes .fade, sizes-bounded b (accepted b (s .pre .0 .sizes .book-accepted)) .fade-high)
 
   -- a valid control whose levels lie in the store
   abbrev Ready : Control → Type 0
@@ -67,6 +69,12 @@ module _ (s : tie.Start) where
 
   step-small : {c : Control} → Ready c → c .fade .step < 2 ^ 31
   step-small r = omega (arith, r .0 .step-low, fade-small)
+
+  -- what a plan reads of the store
+  abbrev Read : Plan → Type 0
+  Read p =
+      (LayoutOf b (s .args .store .now) (p .old) (s .args .layout) × LayoutOf b (s .args .store .now) (p .new) (s .args .layout))
+      × ((p .old ≤ 4) × (p .new ≤ 4) × (p .step ≤ F) × (p .position ≤ 2 ^ 60))
 
 glide-moved-requires : tie.Need-glide-moved-requires
 glide-moved-requires c κs = search needs
@@ -89,20 +97,30 @@ module _ (c : tie.After-glide-moved) where
 point-plan-requires : tie.Need-point-plan-requires
 point-plan-requires c κs = step-small (start c) (one-ready c)
 
+-- what its point reads
+first-read : (c : tie.After-point-plan) → Read (start (c .before)) (c .point-plan .result)
+first-read c = let r = one-ready (c .before) in plan-read (r .0) (r .1) (c .point-plan .result) (c .point-plan .ensures)
+
+level-words-requires : tie.Need-level-words-requires
+level-words-requires c κs = let r = first-read c in (r .1 .0, r .0 .0 .levels)
+
+level-words-requires-2 : tie.Need-level-words-requires-2
+level-words-requires-2 c κs = let r = first-read (c .before) in (r .1 .1, r .0 .1 .levels)
+
 point-of-requires : tie.Need-point-of-requires
 point-of-requires c κs =
-    let o = c .before in
-    let r = one-ready o in
-    plan-read (r .0) (r .1) (c .point-plan .result) (c .point-plan .ensures)
+    let w = c .before in
+    let r = first-read (w .before) in
+    ((r .0 .0 .sizes, w .level-words .ensures .1, c .level-words2 .ensures .1), r .1)
 
 point-moved-requires : tie.Need-point-moved-requires
-point-moved-requires c κs = let o = c .before .before in step-small (start o) (one-ready o)
+point-moved-requires c κs = let o = c .before .before .before .before in step-small (start o) (one-ready o)
 
 -- ---- the second point
 
 module _ (c : tie.After-point-moved) where
   abbrev one : tie.After-glide-moved
-  one = c .before .before .before
+  one = c .before .before .before .before .before
 
   two-is : c .point-moved .result ≡ movePoint (F (start one)) (one .glide-moved .result)
   two-is = c .point-moved .ensures
@@ -113,11 +131,26 @@ module _ (c : tie.After-point-moved) where
 point-plan-requires-2 : tie.Need-point-plan-requires-2
 point-plan-requires-2 c κs = step-small (start (one c)) (two-ready c)
 
+second-read : (c : tie.After-point-plan2) → Read (start (one (c .before))) (c .point-plan2 .result)
+second-read c = let r = two-ready (c .before) in plan-read (r .0) (r .1) (c .point-plan2 .result) (c .point-plan2 .ensures)
+
+level-words-requires-3 : tie.Need-level-words-requires-3
+level-words-requires-3 c κs = let r = second-read c in (r .1 .0, r .0 .0 .levels)
+
+level-words-requires-4 : tie.Need-level-words-requires-4
+level-words-requires-4 c κs = let r = second-read (c .before) in (r .1 .1, r .0 .1 .levels)
+
 point-of-requires-2 : tie.Need-point-of-requires-2
 point-of-requires-2 c κs =
-    let t = c .before in
-    let r = two-ready t in
-    plan-read (r .0) (r .1) (c .point-plan2 .result) (c .point-plan2 .ensures)
+    let w = c .before in
+    let r = second-read (w .before) in
+    ((r .0 .0 .sizes, w .level-words3 .ensures .1, c .level-words4 .ensures .1), r .1)
+
+-- the points of the plans, from the words that the store has for their levels
+point-is : (b store : List ℤ) (S : ℕ) (p : Plan) {old new : List ℤ} {x : ℤ} → old ≡ storeLevel store S (p .old) → new ≡ storeLevel store S (p .new)
+    → x ≡ levelsPoint b old new p → x ≡ point b store S p
+unfolding point levelsPoint value
+point-is b store S p {old} {new} e f h = h ∙ ap₂ (λ o n. levelsPoint b o n p) e f
 
 -- ---- both together
 
@@ -131,16 +164,16 @@ cast-line : tie.Need-cast-line
 cast-line c = simp (reads, second-fits c) (sfits-widen tt (second-fits c))
 
 slice-set-from-line : tie.Need-slice-set-from-line
-slice-set-from-line c = search needs
+slice-set-from-line c = let line = start (one (c .before .before .before .before)) .pre .2 in search needs
 
 cast-line-2 : tie.Need-cast-line-2
-cast-line-2 c = let f = first-fits (c .before .before .before) in simp (reads, f) (sfits-widen tt f)
+cast-line-2 c = let f = first-fits (c .before .before .before .before .before) in simp (reads, f) (sfits-widen tt f)
 
 slice-set-from-line-2 : tie.Need-slice-set-from-line-2
-slice-set-from-line-2 c = search needs
+slice-set-from-line-2 c = let line = start (one (c .before .before .before .before)) .pre .2 in search needs
 
 point-moved-requires-2 : tie.Need-point-moved-requires-2
-point-moved-requires-2 c κs = let t = c .before .before in step-small (start (one t)) (two-ready t)
+point-moved-requires-2 c κs = let t = c .before .before .before .before in step-small (start (one t)) (two-ready t)
 
 same-length : tie.Need-same-length
 same-length c = search needs
@@ -148,14 +181,20 @@ same-length c = search needs
 returns : tie.Need-returns
 returns c =
     let p₂ = c .before in
-    let t = p₂ .before .before in
+    let q₂ = p₂ .before .before .before in
+    let t = q₂ .before in
     let p₁ = t .before in
+    let q₁ = p₁ .before .before .before in
     let o = one t in
     let s = start o in
     let line = s .args .line .now in
-    let make = point (b s) (s .args .store .now) (s .args .layout .recorded) in
+    let store = s .args .store .now in
+    let S = s .args .layout .recorded in
+    let make = point (b s) store S in
+    let first = point-is (b s) store S (q₁ .point-plan .result) (p₁ .before .before .level-words .ensures .0) (p₁ .before .level-words2 .ensures .0) (p₁ .point-of .ensures) in
+    let second = point-is (b s) store S (q₂ .point-plan2 .result) (p₂ .before .before .level-words3 .ensures .0) (p₂ .before .level-words4 .ensures .0) (p₂ .point-of2 .ensures) in
     let written = two-written line (p₁ .point-of .result) (p₂ .point-of2 .result) (omega arith) in
-    let points = points-are make (F s) (s .args .c) (one-is o) (p₁ .before .point-plan .ensures) (p₁ .point-of .ensures) (two-is t) (p₂ .before .point-plan2 .ensures) (p₂ .point-of2 .ensures) in (
+    let points = points-are make (F s) (s .args .c) (one-is o) (q₁ .point-plan .ensures) first (two-is t) (q₂ .point-plan2 .ensures) second in (
       refl,
       control-is (F s) (s .args .c) (one-is o) (two-is t) (c .point-moved2 .ensures),
       simp (reads, first-fits p₁, second-fits p₂) (written ∙ ap (overwrite line 126) points),
@@ -167,9 +206,13 @@ one-output-spec =
     (tie.spec
     glide-moved-requires
     point-plan-requires
+    level-words-requires
+    level-words-requires-2
     point-of-requires
     point-moved-requires
     point-plan-requires-2
+    level-words-requires-3
+    level-words-requires-4
     point-of-requires-2
     cast-line
     slice-set-from-line

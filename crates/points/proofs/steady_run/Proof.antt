@@ -67,7 +67,7 @@ slice-aggregate-steady-positions c = search needs
 steady-positions-requires : tie.Need-steady-positions-requires
 steady-positions-requires c κs =
     let s = c .before in
-    let o = s .pre .0 .0 in
+    let o = s .pre .0 .0 .sizes in
     let f = sizes-bounded (s .args .book .now) (accepted _ (o .book-accepted)) in
     (s .pre .0 .1, s .pre .0 .2, s .pre .0 .4, omega (arith, o .fade, f .fade-low), omega (arith, o .fade, f .fade-high), refl)
 

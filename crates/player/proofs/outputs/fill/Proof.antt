@@ -45,7 +45,7 @@ module _ (l : tie.After-layout-of) where
 table-pays-requires : tie.Need-table-pays-requires
 table-pays-requires c κs =
     let f = sizes-bounded (b (start c)) (book (start c)) in
-    (omega (arith, layout-is c .phases, f .phases-high), omega (arith, layout-is c .taps, f .taps-high))
+    (omega (arith, layout-is c .sizes .phases, f .phases-high), omega (arith, layout-is c .sizes .taps, f .taps-high))
 
 -- ---- with a table
 
@@ -55,7 +55,7 @@ slice-aggregate-stage-rows c = search needs
 stage-rows-requires : tie.Need-stage-rows-requires
 stage-rows-requires c κs =
     let t = c .before .before in
-    let l = layout-is (t .before) in
+    let l = layout-is (t .before) .sizes in
     (l .book-accepted, l .phases, l .taps, t .table-pays .ensures (c .before .if1 .taken), omega arith)
 
 slice-aggregate-fill-by : tie.Need-slice-aggregate-fill-by

@@ -60,10 +60,10 @@ module _ (s : tie.Start Inv-loop μ-loop) where
   out-fits = omega arith
 
   book : Accepted b
-  book = accepted b (s .pre .1 .0 .book-accepted)
+  book = accepted b (s .pre .1 .0 .sizes .book-accepted)
 
 decimation-taps-requires : tie.Need-decimation-taps-requires Inv-loop μ-loop
-decimation-taps-requires c κs = c .pre .1 .0 .book-accepted
+decimation-taps-requires c κs = c .pre .1 .0 .sizes .book-accepted
 
 line-of-requires : tie.Need-line-of-requires Inv-loop μ-loop
 line-of-requires c κs = search needs
@@ -136,7 +136,7 @@ module _ (a : tie.At-loop Inv-loop μ-loop) where
   layout-is = s .pre .1 .0
 
   fade-is : s .args .layout .fade ≡ sizesOf (b s) .fade
-  fade-is = layout-is .fade
+  fade-is = layout-is .sizes .fade
 
 sub-run-length : tie.Need-sub-run-length Inv-loop μ-loop
 sub-run-length c = omega (arith, filled (c .before) .count, out-length (c .before))
@@ -202,7 +202,7 @@ write-outputs-requires c κs =
     let n = c .before .before .before in
     let a = turn n in
     let u = s a in (
-      (u .pre .1 .0 .book-accepted, c .before .before .before .before .before .before .before .before .before .before .before .decimation-taps .ensures, few n, omega (arith, room n, out-length a)),
+      (u .pre .1 .0 .sizes .book-accepted, c .before .before .before .before .before .before .before .before .before .before .before .decimation-taps .ensures, few n, omega (arith, room n, out-length a)),
       points-small n,
     )
 

@@ -6,7 +6,7 @@ use borrow.Author.Needs.{needs}
 use Rattle.book.specs.Book.{sizesOf}
 use Rattle.book.proofs.Bounds.{length-is}
 use Rattle.book.proofs.Accepted.{Accepted, accepted, sizes-bounded}
-use Rattle.values.specs.Layout.{LevelsIn, LayoutOf}
+use Rattle.values.specs.Layout.{LevelsIn, SizesIn, LayoutOf}
 use Rattle.values.proofs.layout.layout_of.Statement.{statement}
 use Rattle.values.proofs.layout.layout_of.Tie as tie
 
@@ -29,10 +29,7 @@ returns c =
     let e = r .read-sizes .ensures in (
       refl,
       λ store T room. record {
-        book-accepted = s .pre .0;
-        taps = ap (λ z. z .taps) e;
-        phases = ap (λ z. z .phases) e;
-        fade = ap (λ z. z .fade) e;
+        sizes = record { book-accepted = s .pre .0; taps = ap (λ z. z .taps) e; phases = ap (λ z. z .phases) e; fade = ap (λ z. z .fade) e };
         levels = record { recorded-high = s .pre .1; starts = c .level-starts .ensures; room = room };
       },
     )

@@ -8,8 +8,8 @@ use Rattle.values.proofs.layout.level_words.Tie as tie
 mul-start : tie.Need-mul-start
 mul-start c = search needs
 
-array-read-start : tie.Need-array-read-start
-array-read-start c = search needs
+element-copy-out-start : tie.Need-element-copy-out-start
+element-copy-out-start c = search needs
 
 add-end : tie.Need-add-end
 add-end c = search needs
@@ -17,33 +17,33 @@ add-end c = search needs
 mul-end : tie.Need-mul-end
 mul-end c = search needs
 
-array-read-end : tie.Need-array-read-end
-array-read-end c = search needs
+element-copy-out-end : tie.Need-element-copy-out-end
+element-copy-out-end c = search needs
 
 mul-result : tie.Need-mul-result
-mul-result c = let s = c .before in omega (arith, start-below (s .pre .0) (s .pre .1), end-inside (s .pre .0) (s .pre .1))
+mul-result c = let s = c .before .before in omega (arith, start-below (s .pre .0) (s .pre .1), end-inside (s .pre .0) (s .pre .1))
 
 sub-result : tie.Need-sub-result
-sub-result c = let s = c .before in omega (arith, start-below (s .pre .0) (s .pre .1))
+sub-result c = let s = c .before .before in omega (arith, start-below (s .pre .0) (s .pre .1))
 
 part-result-start : tie.Need-part-result-start
-part-result-start c = let s = c .before in omega (arith, start-below (s .pre .0) (s .pre .1))
+part-result-start c = let s = c .before .before in omega (arith, start-below (s .pre .0) (s .pre .1))
 
 part-result-end : tie.Need-part-result-end
-part-result-end c = let s = c .before in omega (arith, end-inside (s .pre .0) (s .pre .1))
+part-result-end c = let s = c .before .before in omega (arith, end-inside (s .pre .0) (s .pre .1))
 
 returns : tie.Need-returns
-returns c = let s = c .before .before in (words-are (s .pre .0) (s .pre .1), words-count (s .pre .0) (s .pre .1))
+returns c = let s = c .before .before .before in (words-are (s .pre .0) (s .pre .1), words-count (s .pre .0) (s .pre .1))
 
 pub level-words-spec : {M : Type 1} → statement M
 level-words-spec =
     tie.close
     (tie.spec
     mul-start
-    array-read-start
+    element-copy-out-start
     add-end
     mul-end
-    array-read-end
+    element-copy-out-end
     mul-result
     sub-result
     part-result-start

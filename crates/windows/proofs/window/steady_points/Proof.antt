@@ -15,7 +15,7 @@ level-points-requires : tie.Need-level-points-requires
 level-points-requires c κs =
     let w = c .before in
     let s = w .before .before in
-    let o = s .pre .0 .0 in
+    let o = s .pre .0 .0 .sizes in
     ((o .book-accepted, o .phases, o .taps), ((s .pre .0 .1, w .level-words .ensures .1, s .pre .0 .3, s .pre .0 .4, s .pre .0 .5, s .pre .0 .2), (s .pre .1 .0, s .pre .1 .1)))
 
 same-length : tie.Need-same-length
