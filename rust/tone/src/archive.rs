@@ -17,7 +17,7 @@ mod symbols {
         pub fn tone_check(book: *const i32, book_words: usize) -> u32;
 
         // No pointer crosses, and every value of both arguments is taken.
-        pub safe fn tone_store_words(samples: usize, top: u32) -> usize;
+        pub safe fn tone_store_words(sample_count: usize, top: u32) -> usize;
 
         pub fn tone_build(
             book: *const i32,

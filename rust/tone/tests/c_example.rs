@@ -55,7 +55,7 @@ fn example_prints_what_it_should(name: &str, standard: &str, language: &str) {
     let mut compile = compiler(name, standard);
     compile.args(["-x", language]);
     compile.arg(example.join("bench_cases.c"));
-    compile.args(["-x", "none", "-ltone", "-L"]);
+    compile.args(["-x", "none", "-ltone", "-ltone_builder", "-L"]);
     compile.arg(archive_dir()).arg("-o").arg(&program);
     succeeded(&mut compile);
     let printed = succeeded(&mut Command::new(&program)).stdout;
