@@ -1,11 +1,15 @@
-//! Links the archives that `rt staticlib` writes into the repository's
-//! `target/staticlib`. `TONE_ARCHIVE_DIR` names another folder.
+//! Links the archive of each half that is asked for. `rt staticlib` writes them
+//! into the repository's `target/staticlib`; `TONE_ARCHIVE_DIR` names another
+//! folder.
 
 use std::env;
 use std::path::{Path, PathBuf};
 
-/// The archives' crates.
-const ARCHIVES: [&str; 2] = ["tone_builder", "tone"];
+/// The archives, and whether the features ask for them.
+const ARCHIVES: [(&str, bool); 2] = [
+    ("tone_builder", cfg!(feature = "builder")),
+    ("tone", cfg!(feature = "player")),
+];
 
 fn archive_dir() -> PathBuf {
     println!("cargo::rerun-if-env-changed=TONE_ARCHIVE_DIR");
@@ -18,16 +22,16 @@ fn archive_dir() -> PathBuf {
 fn main() {
     println!("cargo::rerun-if-changed=build.rs");
     let dir = archive_dir();
-    for name in ARCHIVES {
+    println!("cargo::rustc-link-search=native={}", dir.display());
+    for (name, _) in ARCHIVES.iter().filter(|(_, asked)| *asked) {
         let archive = dir.join(format!("lib{name}.a"));
         println!("cargo::rerun-if-changed={}", archive.display());
-        match archive.canonicalize() {
-            Ok(_) => println!("cargo::rustc-link-lib=static={name}"),
-            Err(_) => println!(
+        println!("cargo::rustc-link-lib=static={name}");
+        if !archive.is_file() {
+            println!(
                 "cargo::error={} is missing: run `rt staticlib {name}` in the repository's root first",
                 archive.display()
-            ),
+            );
         }
     }
-    println!("cargo::rustc-link-search=native={}", dir.display());
 }

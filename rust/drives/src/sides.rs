@@ -168,12 +168,12 @@ impl Sides {
     }
 
     /// The words of a store, 0 where S or T is outside its range.
-    pub fn store_words(&mut self, samples: u64, top: u32) -> Result<usize, Difference> {
-        let expected = match renderer::levels::sizes_out_of_range(samples, top) {
+    pub fn store_words(&mut self, sample_count: u64, top: u32) -> Result<usize, Difference> {
+        let expected = match renderer::levels::sizes_out_of_range(sample_count, top) {
             true => 0,
-            false => renderer::levels::store_length(samples, top),
+            false => renderer::levels::store_length(sample_count, top),
         };
-        let got = archive::store_words(samples as usize, top);
+        let got = archive::store_words(sample_count as usize, top);
         same("words of a store", expected, got)?;
         Ok(expected)
     }

@@ -1,34 +1,7 @@
-//! The archive's own calls: slices and numbers, nothing else.
-//!
-//! Each function returns the number of document 01 that refused the call, or 0.
-//! [`VOICE_LENGTH`](crate::VOICE_LENGTH) is returned, before every other number,
-//! where a voice slice is not [`VOICE_WORDS`](crate::VOICE_WORDS) long. A
-//! refusal writes nothing, but that a refused [`open`] writes the zero record,
-//! unless its slice has the wrong length.
-//!
-//! This is the one module with unsafe code. A slice crosses as its pointer and
-//! its length. The archive reads and writes inside the slices that it is lent,
-//! on every input, keeps no pointer after a call and has no state of its own;
-//! what it asks of its caller is that the slices are valid and that those it
-//! writes overlap no other, which the borrows of these signatures say.
+//! libtone.a
 
 mod symbols {
     unsafe extern "C" {
-        pub fn tone_check(book: *const i32, book_words: usize) -> u32;
-
-        // No pointer crosses, and every value of both arguments is taken.
-        pub safe fn tone_store_words(sample_count: usize, top: u32) -> usize;
-
-        pub fn tone_build(
-            book: *const i32,
-            book_words: usize,
-            samples: *const i16,
-            sample_count: usize,
-            top: u32,
-            store: *mut i32,
-            store_words: usize,
-        ) -> u32;
-
         pub fn tone_open(rate: f32, top: u32, voice: *mut i32, voice_words: usize) -> u32;
 
         pub fn tone_jump(voice: *mut i32, voice_words: usize, rate: f32) -> u32;
@@ -44,39 +17,10 @@ mod symbols {
             book_words: usize,
             store: *const i32,
             store_words: usize,
-            samples: usize,
+            sample_count: usize,
             out: *mut i16,
             out_count: usize,
         ) -> u32;
-    }
-}
-
-/// The check of a book: 1 to 7.
-pub fn check(book: &[i32]) -> u32 {
-    // SAFETY: `book` is a valid slice, only read.
-    unsafe { symbols::tone_check(book.as_ptr(), book.len()) }
-}
-
-/// Words of a store for S samples and top level T; 0 where S or T is outside
-/// its range.
-pub fn store_words(samples: usize, top: u32) -> usize {
-    symbols::tone_store_words(samples, top)
-}
-
-/// The level builder: 1 to 9.
-pub fn build(book: &[i32], samples: &[i16], top: u32, store: &mut [i32]) -> u32 {
-    // SAFETY: `book` and `samples` are valid slices, only read; `store` is a
-    // valid slice, and its exclusive borrow overlaps neither of them.
-    unsafe {
-        symbols::tone_build(
-            book.as_ptr(),
-            book.len(),
-            samples.as_ptr(),
-            samples.len(),
-            top,
-            store.as_mut_ptr(),
-            store.len(),
-        )
     }
 }
 
@@ -113,7 +57,7 @@ pub fn play(
     voice: &mut [i32],
     book: &[i32],
     store: &[i32],
-    samples: usize,
+    sample_count: usize,
     out: &mut [i16],
 ) -> u32 {
     // SAFETY: `book` and `store` are valid slices, only read; `voice` and `out`
@@ -127,7 +71,7 @@ pub fn play(
             book.len(),
             store.as_ptr(),
             store.len(),
-            samples,
+            sample_count,
             out.as_mut_ptr(),
             out.len(),
         )

@@ -1,10 +1,17 @@
-//! The voice: open, jump, glide, seek and play.
+//! The unit's half: a voice, with open, jump, glide, seek and play. It plays
+//! stores that a studio built.
 
 use crate::archive;
 use crate::Refusal;
 
 /// Words of a voice.
 pub const VOICE_WORDS: usize = 95;
+
+/// The most outputs of one play.
+pub const MOST_OUTPUTS: usize = 1_048_576;
+
+/// The most outputs of one glide.
+pub const MOST_GLIDE: u32 = 65_536;
 
 /// A voice: all that a drive has come to, as [`VOICE_WORDS`] words.
 ///
@@ -28,17 +35,16 @@ pub const VOICE_WORDS: usize = 95;
 /// A voice made of any words is accepted or refused by number at each call.
 ///
 /// ```
-/// use tone::{store_words, build, Voice};
+/// use tone::Voice;
 ///
 /// // Linear interpolation, no filters: document 01's book K.
 /// let book = [2, 1, 0, 0, 1, 0, 16384, 16384, -16384, 16384, 16384];
-/// let samples = [0, 1000, 2000];
-/// let mut store = vec![0; store_words(samples.len(), 0).unwrap()];
-/// build(&book, &samples, 0, &mut store)?;
+/// // Level 0 of the samples 0, 1000, 2000: each times 256.
+/// let store = [0, 256_000, 512_000];
 ///
 /// let mut voice = Voice::open(1.0, 0)?;
 /// let mut out = [0; 4];
-/// voice.play(&book, &store, samples.len(), &mut out)?;
+/// voice.play(&book, &store, 3, &mut out)?;
 /// assert_eq!(out, [500, 1500, 1000, 0]);
 /// # Ok::<(), tone::Refusal>(())
 /// ```
@@ -107,8 +113,8 @@ impl Voice {
         Refusal::answer(archive::seek(&mut self.words, position))
     }
 
-    /// Fills `out` with the next samples. `samples` is the count of samples
-    /// that the store was built with. Refused 1 to 9 for book and store, 13 to
+    /// Fills `out` with the next samples. `sample_count` is the S that the
+    /// store was built with. Refused 1 to 9 for book and store, 13 to
     /// 17 for the voice, 11 for more than 1048576 outputs; then neither `out`
     /// nor the voice is changed.
     ///
@@ -117,8 +123,7 @@ impl Voice {
     ///
     /// ```
     /// # let book = [2, 1, 0, 0, 1, 0, 16384, 16384, -16384, 16384, 16384];
-    /// # let mut store = [0; 3];
-    /// # tone::build(&book, &[0, 1000, 2000], 0, &mut store)?;
+    /// # let store = [0, 256_000, 512_000];
     /// let mut whole = tone::Voice::open(1.0, 0)?;
     /// let mut cut = whole.clone();
     /// let mut out = [0; 4];
@@ -134,9 +139,15 @@ impl Voice {
         &mut self,
         book: &[i32],
         store: &[i32],
-        samples: usize,
+        sample_count: usize,
         out: &mut [i16],
     ) -> Result<(), Refusal> {
-        Refusal::answer(archive::play(&mut self.words, book, store, samples, out))
+        Refusal::answer(archive::play(
+            &mut self.words,
+            book,
+            store,
+            sample_count,
+            out,
+        ))
     }
 }
