@@ -1,6 +1,6 @@
 //! Each call on both sides, compared.
 //!
-//! The archive's slices stand between guard words, and what it may write holds a
+//! The archives' slices stand between guard words, and what they may write holds a
 //! pattern before the call, so a word written out of turn is seen.
 
 use crate::record::{voice_of, word_name, words_of, Words};
