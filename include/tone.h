@@ -1,49 +1,21 @@
 /*
  * tone.h: the driving-tone player, for C99 and C++.
  *
- * A recorded 16-bit hum is played faster or slower, from octave levels that are
- * built of it once. The calls are in libtone.a, for x86-64; link with -ltone. The
- * archive needs the C library and nothing else.
+ * A recorded 16-bit hum is played faster or slower, from the octave levels that a
+ * studio built of it once (tone_builder.h). The calls are in libtone.a, for
+ * x86-64; link with -ltone. The archive needs the C library and nothing else. It
+ * shares no symbol with libtone_builder.a: a program may link both.
  *
  *   const int32_t book[] = { .. };                  a filter book
- *   tone_build(book, .., samples, .., top, store, ..);      once, in the studio
+ *   const int32_t store[] = { .. };                 the levels of a recording
  *   int32_t voice[TONE_VOICE_WORDS];
  *   tone_open(1.0f, top, voice, TONE_VOICE_WORDS);
  *   tone_glide(voice, TONE_VOICE_WORDS, 2.0f, 48000);
  *   tone_play(voice, .., book, .., store, .., sample_count, out, out_count);
  *
- *
- * THE PROMISE OF EVERY CALL
- *
- * For every input that keeps the rules on pointers below, a call ends, and its
- * number and every word that it leaves are fixed by its arguments alone. Words,
- * counts, positions and rates may be anything, NaN among the rates. This is
- * proved: each call equals its definition, which is named beside it. The letters
- * N, M, A, B, F, S, T, R, P, i, c and j are those of the player's rules (document
- * 01).
- *
- * A call returns TONE_ACCEPTED, which is 0, or the number of a refusal. Each
- * call lists its numbers in their order: it returns the first whose condition
- * holds.
- *
- * A refused call writes nothing: voice, store and output are as they came. The
- * one exception is tone_open: where it returns 8 or 10 the voice is the zero
- * record, 95 words of 0.
- *
- * No call allocates, prints, waits, keeps a pointer or has a state of its own.
- * On x86-64 tone_play takes some 21 KB of stack, every other call less than 2 KB
- * (measured, not proved).
- * Calls may run at the same time where none writes what another reads or
- * writes: many voices can play from one book and one store.
- *
- *
- * POINTERS
- *
- * An array is given as a pointer to its first element and its count of elements.
- *  - The pointer is not null and is aligned for its type, and the array is valid
- *    for the whole count. This holds for a count of 0 as well: pass a pointer to
- *    some element.
- *  - An array that is not const overlaps no other array of the call.
+ * tone_numbers.h has the promise that every call keeps, the rules on pointers,
+ * the numbers and the limits of book and store. On x86-64 tone_play takes some
+ * 21 KB of stack, every other call less than 2 KB (measured, not proved).
  *
  *
  * A VOICE
@@ -74,48 +46,13 @@
 #ifndef TONE_H
 #define TONE_H
 
-#include <stddef.h>
-#include <stdint.h>
+#include "tone_numbers.h"
 
 #ifdef __cplusplus
 extern "C" {
 #endif
 
-/* The numbers that calls return. */
-enum tone_number {
-    TONE_ACCEPTED = 0,
-
-    /* of the book */
-    TONE_BOOK_SHORT = 1,               /* the book is shorter than 5 words */
-    TONE_BOOK_SIZE = 2,                /* a size is outside its range */
-    TONE_BOOK_LENGTH = 3,              /* the book's length is not the one that its sizes give */
-    TONE_BOOK_COEFFICIENT = 4,         /* an impulse or tap is outside -32768..32767 */
-    TONE_BOOK_FIRST_IMPULSE = 5,       /* the first impulse, G_0[0], is not 0 */
-    TONE_BOOK_DIFFERENCE = 6,          /* a difference is wrong */
-    TONE_BOOK_SUM = 7,                 /* a sum of absolute values is too large */
-
-    /* of the other arguments */
-    TONE_SAMPLES_OR_TOP = 8,           /* S is outside 1..1048576, or T above 4 */
-    TONE_STORE_SHORT = 9,              /* the store is shorter than its levels */
-    TONE_RATE = 10,                    /* the rate is not from 1/16 up to below 2^(T+1) */
-    TONE_COUNT = 11,                   /* a glide's count is outside 1..65536, a play's 0..1048576 */
-    TONE_POSITION = 12,                /* the position is beyond 2^60 */
-
-    /* of the voice */
-    TONE_VOICE_LEVEL = 13,             /* T is above 4, or a level above T */
-    TONE_VOICE_FADE = 14,              /* i is 0 with two levels unequal, above 0 with them equal, or at least F */
-    TONE_VOICE_RATE = 15,              /* R, R0 or R1 is outside 2^23..2^(28+T)-1, c above 65536, or j not below c;
-                                          where c is 0 only R is looked at */
-    TONE_VOICE_POSITION = 16,          /* P is beyond 2^60 */
-    TONE_VOICE_HISTORY = 17,           /* a point is beyond -2^29..2^29 */
-    TONE_VOICE_LENGTH = 28             /* the voice's count of words is not TONE_VOICE_WORDS */
-};
-
 #define TONE_VOICE_WORDS 95            /* words of a voice */
-#define TONE_MOST_BOOK_WORDS 6231      /* words of the longest accepted book */
-#define TONE_MOST_SAMPLES 1048576      /* the most samples of a recording, S */
-#define TONE_MOST_TOP 4                /* the highest top level, T */
-#define TONE_MOST_STORE_WORDS 2031616  /* words of the levels for the most samples and the highest top level */
 #define TONE_MOST_OUTPUTS 1048576      /* the most outputs of one play */
 #define TONE_MOST_GLIDE 65536          /* the most outputs of one glide, c */
 #define TONE_MOST_POSITION ((uint64_t)1 << 60)  /* the highest position, P */
@@ -139,52 +76,16 @@ enum tone_voice_word {
 };
 
 /*
- * Tests a filter book. A book is its sizes N, M, A, B, F; M x N impulses and
- * M x N differences, phase q tap k at q x N + k; A+1 level taps h and B+1
- * decimation taps g, centre first.
- *
- * Numbers: 1 2 3 4 5 6 7.
- * Writes:  nothing.
- *
- * The number is bookNumber of the book's words (crates/book/specs/Check.antt).
- */
-uint32_t tone_check(const int32_t *book, size_t book_words);
-
-/*
- * The words of a store for `samples` samples and the levels 0..`top`: S and its
- * halves, each rounded up. 0 where S is outside 1..TONE_MOST_SAMPLES or T above
- * TONE_MOST_TOP.
- *
- * The answer is storeWords of both (crates/tone/specs/Calls.antt).
- */
-size_t tone_store_words(size_t samples, uint32_t top);
-
-/*
- * Builds the octave levels 0..`top` of a recording into the store, one after
- * another. S is `sample_count`.
- *
- * Numbers: 1 2 3 4 5 6 7, then 8 of S and T, then 9.
- * Writes:  the first tone_store_words(sample_count, top) words of the store. The
- *          words after them are left.
- *
- * Number and store are those of buildAnswer (crates/levels/specs/Build.antt).
- * Words of level j lie within -2^(23+j)..2^(23+j).
- */
-uint32_t tone_build(const int32_t *book, size_t book_words,
-                    const int16_t *samples, size_t sample_count, uint32_t top,
-                    int32_t *store, size_t store_words);
-
-/*
  * Opens a voice at a rate, for stores of top level `top`: at position 0, on the
  * level that the rate asks for, with no glide, no fade and a silent history. A
  * rate of 1 is the recorded speed. R is rate x 2^27, with nothing lost.
  *
  * Numbers: 28, then 8 of T, then 10.
- * Writes:  the voice: the fresh one, or after 8 and 10 the zero record. Every
- *          later call refuses the zero record.
+ * Writes:  the voice: the fresh one, or after 8 and 10 the zero record, 95 words
+ *          of 0. Every later call refuses the zero record.
  *
- * Number and voice are those of openCrossing (crates/tone/specs/Calls.antt), over
- * openAnswer (crates/player/specs/Calls.antt).
+ * Number and voice are those of openCrossing (crates/marshal/specs/Calls.antt),
+ * over openAnswer (crates/player/specs/Calls.antt).
  */
 uint32_t tone_open(float rate, uint32_t top, int32_t *voice, size_t voice_words);
 
@@ -194,7 +95,7 @@ uint32_t tone_open(float rate, uint32_t top, int32_t *voice, size_t voice_words)
  * Numbers: 28, then 13 15 16 17 of the voice, then 10.
  * Writes:  the voice. Words other than 4 to 11 keep their values.
  *
- * Number and voice are those of crossing (crates/tone/specs/Calls.antt), over
+ * Number and voice are those of crossing (crates/marshal/specs/Calls.antt), over
  * orderAnswer (crates/player/specs/Calls.antt).
  */
 uint32_t tone_jump(int32_t *voice, size_t voice_words, float rate);
@@ -207,7 +108,7 @@ uint32_t tone_jump(int32_t *voice, size_t voice_words, float rate);
  * Numbers: 28, then 13 15 16 17 of the voice, then 10, then 11.
  * Writes:  the voice. Words other than 6 to 11 keep their values.
  *
- * Number and voice are those of crossing (crates/tone/specs/Calls.antt), over
+ * Number and voice are those of crossing (crates/marshal/specs/Calls.antt), over
  * orderAnswer (crates/player/specs/Calls.antt).
  */
 uint32_t tone_glide(int32_t *voice, size_t voice_words, float rate, uint32_t count);
@@ -218,24 +119,24 @@ uint32_t tone_glide(int32_t *voice, size_t voice_words, float rate, uint32_t cou
  * Numbers: 28, then 13 15 16 17 of the voice, then 12.
  * Writes:  the voice. Words other than 12 and 13 keep their values.
  *
- * Number and voice are those of crossing (crates/tone/specs/Calls.antt), over
+ * Number and voice are those of crossing (crates/marshal/specs/Calls.antt), over
  * seekAnswer (crates/player/specs/Calls.antt).
  */
 uint32_t tone_seek(int32_t *voice, size_t voice_words, uint64_t position);
 
 /*
- * Fills the whole output with the voice's next samples. `samples` is the S that
- * the store was built with; its T is the voice's. A count of 0 is accepted and
- * leaves the voice as it is. The store may hold anything: a word of level j
- * beyond -2^(23+j)..2^(23+j) is read as that limit.
+ * Fills the whole output with the voice's next samples. `sample_count` is the S
+ * that the store was built with; its T is the voice's. A count of 0 outputs is
+ * accepted and leaves the voice as it is. The store may hold anything: a word of
+ * level j beyond -2^(23+j)..2^(23+j) is read as that limit.
  *
- * Numbers: 28, then 1 2 3 4 5 6 7 of the book, then 8 of `samples` and the
- *          voice's T, then 9 with that T, then 13 14 15 16 17 of the voice,
- *          then 11.
+ * Numbers: 28, then 1 2 3 4 5 6 7 of the book, then 8 of `sample_count`
+ *          and the voice's T, then 9 with that T, then 13 14 15 16 17 of the
+ *          voice, then 11.
  * Writes:  every output word, and the voice.
  *
  * Number, voice and output are those of playCrossing
- * (crates/tone/specs/Calls.antt), over playAnswer
+ * (crates/marshal/specs/Calls.antt), over playAnswer
  * (crates/player/specs/Calls.antt).
  *
  * THE PROMISE OF A WHOLE DRIVE (theorem demand3, crates/drive/proofs/Theorem.antt).
@@ -259,7 +160,7 @@ uint32_t tone_seek(int32_t *voice, size_t voice_words, uint64_t position);
  */
 uint32_t tone_play(int32_t *voice, size_t voice_words,
                    const int32_t *book, size_t book_words,
-                   const int32_t *store, size_t store_words, size_t samples,
+                   const int32_t *store, size_t store_words, size_t sample_count,
                    int16_t *out, size_t out_count);
 
 #ifdef __cplusplus

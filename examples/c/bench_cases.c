@@ -1,9 +1,9 @@
 /*
- * Plays three of the bench cases of document 01, with its book K, and shows a
- * refusal. From the repository's root, once `rt staticlib tone` has written the
- * archive:
+ * Builds and plays three of the bench cases of document 01, with its book K, and
+ * shows a refusal. From the repository's root, once `rt staticlib tone_builder`
+ * and `rt staticlib tone` have written the archives:
  *
- *   gcc -std=c99 -Iinclude examples/c/bench_cases.c -Ltarget/staticlib -ltone -o bench_cases
+ *   gcc -std=c99 -Iinclude examples/c/bench_cases.c -Ltarget/staticlib -ltone_builder -ltone -o bench_cases
  *   ./bench_cases
  *
  * It prints what bench_cases.txt holds.
@@ -13,6 +13,7 @@
 #include <string.h>
 
 #include "tone.h"
+#include "tone_builder.h"
 
 #define BOOK_WORDS 11
 #define MOST_STORE_WORDS 16
@@ -23,7 +24,7 @@ struct hum {
     int32_t book[BOOK_WORDS];
     int32_t store[MOST_STORE_WORDS];
     size_t store_words;
-    size_t samples;
+    size_t sample_count;
 };
 
 /* Ends the program where a call that must be accepted is refused. */
@@ -43,7 +44,7 @@ static void build(struct hum *hum, int32_t fade, const int16_t *samples, size_t 
 
     memcpy(hum->book, book, sizeof book);
     must("tone_check", tone_check(hum->book, BOOK_WORDS));
-    hum->samples = count;
+    hum->sample_count = count;
     hum->store_words = tone_store_words(count, top);
     if (hum->store_words > MOST_STORE_WORDS) {
         fprintf(stderr, "the store needs %lu words\n", (unsigned long)hum->store_words);
@@ -59,7 +60,7 @@ static void play(char letter, int32_t *voice, const struct hum *hum, size_t coun
     size_t k;
 
     must("tone_play", tone_play(voice, TONE_VOICE_WORDS, hum->book, BOOK_WORDS, hum->store, hum->store_words,
-                                hum->samples, out, count));
+                                hum->sample_count, out, count));
     printf("%c", letter);
     for (k = 0; k < count; k++)
         printf(" %d", out[k]);

@@ -1,10 +1,15 @@
-//! Links the archive `libtone.a`, which `rt staticlib tone` writes into the
-//! repository's `target/staticlib`. `TONE_ARCHIVE_DIR` names another folder.
+//! Links the archive of each half that is asked for. `rt staticlib` writes them
+//! into the repository's `target/staticlib`; `TONE_ARCHIVE_DIR` names another
+//! folder.
 
 use std::env;
 use std::path::{Path, PathBuf};
 
-const ARCHIVE: &str = "libtone.a";
+/// The archives, and whether the features ask for them.
+const ARCHIVES: [(&str, bool); 2] = [
+    ("tone_builder", cfg!(feature = "builder")),
+    ("tone", cfg!(feature = "player")),
+];
 
 fn archive_dir() -> PathBuf {
     println!("cargo::rerun-if-env-changed=TONE_ARCHIVE_DIR");
@@ -17,18 +22,16 @@ fn archive_dir() -> PathBuf {
 fn main() {
     println!("cargo::rerun-if-changed=build.rs");
     let dir = archive_dir();
-    let archive = dir.join(ARCHIVE);
-    println!("cargo::rerun-if-changed={}", archive.display());
-    let Ok(dir) = dir.canonicalize().and_then(|dir| {
-        std::fs::metadata(&archive)?;
-        Ok(dir)
-    }) else {
-        println!(
-            "cargo::error={} is missing: run `rt staticlib tone` in the repository's root first",
-            archive.display()
-        );
-        return;
-    };
     println!("cargo::rustc-link-search=native={}", dir.display());
-    println!("cargo::rustc-link-lib=static=tone");
+    for (name, _) in ARCHIVES.iter().filter(|(_, asked)| *asked) {
+        let archive = dir.join(format!("lib{name}.a"));
+        println!("cargo::rerun-if-changed={}", archive.display());
+        println!("cargo::rustc-link-lib=static={name}");
+        if !archive.is_file() {
+            println!(
+                "cargo::error={} is missing: run `rt staticlib {name}` in the repository's root first",
+                archive.display()
+            );
+        }
+    }
 }

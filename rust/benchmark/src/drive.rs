@@ -61,8 +61,8 @@ impl Player for tone::Voice {
     }
 
     fn play(&mut self, setting: &Setting, out: &mut [i16]) {
-        let samples = setting.samples.len();
-        tone::Voice::play(self, &setting.book, &setting.store, samples, out)
+        let sample_count = setting.samples.len();
+        tone::Voice::play(self, &setting.book, &setting.store, sample_count, out)
             .expect("an accepted play");
     }
 }
@@ -77,8 +77,8 @@ impl Player for twin::Voice {
     }
 
     fn play(&mut self, setting: &Setting, out: &mut [i16]) {
-        let samples = setting.samples.len();
-        let number = twin::Voice::play(self, &setting.book, &setting.store, samples, out);
+        let sample_count = setting.samples.len();
+        let number = twin::Voice::play(self, &setting.book, &setting.store, sample_count, out);
         assert_eq!(number, 0);
     }
 }

@@ -1,4 +1,4 @@
-//! The twin against the archive: every number, sample, store word and voice
+//! The twin against the archives: every number, sample, store word and voice
 //! word, on random books, stores and drives, refused calls among them.
 //!
 //! `TWIN_SEED` and `TWIN_COUNT` set the first drive's seed and the count of

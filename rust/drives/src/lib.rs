@@ -1,4 +1,4 @@
-//! Random drives through the archive and through a renderer that was written
+//! Random drives through the archives and through a renderer that was written
 //! from the documents alone: every number, voice word, store word and sample
 //! must be equal, and a refused call must leave everything as it was.
 //!

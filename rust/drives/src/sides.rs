@@ -1,6 +1,6 @@
 //! Each call on both sides, compared.
 //!
-//! The archive's slices stand between guard words, and what it may write holds a
+//! The archives' slices stand between guard words, and what they may write holds a
 //! pattern before the call, so a word written out of turn is seen.
 
 use crate::record::{voice_of, word_name, words_of, Words};
@@ -168,12 +168,12 @@ impl Sides {
     }
 
     /// The words of a store, 0 where S or T is outside its range.
-    pub fn store_words(&mut self, samples: u64, top: u32) -> Result<usize, Difference> {
-        let expected = match renderer::levels::sizes_out_of_range(samples, top) {
+    pub fn store_words(&mut self, sample_count: u64, top: u32) -> Result<usize, Difference> {
+        let expected = match renderer::levels::sizes_out_of_range(sample_count, top) {
             true => 0,
-            false => renderer::levels::store_length(samples, top),
+            false => renderer::levels::store_length(sample_count, top),
         };
-        let got = archive::store_words(samples as usize, top);
+        let got = archive::store_words(sample_count as usize, top);
         same("words of a store", expected, got)?;
         Ok(expected)
     }

@@ -2,7 +2,7 @@
 
 use tone::VOICE_LENGTH;
 
-/// The archive's calls that give a number.
+/// The archives' calls that give a number.
 #[derive(Clone, Copy, Debug, PartialEq, Eq)]
 pub enum Kind {
     /// The check of a book.

@@ -1,4 +1,4 @@
-//! The archive against the renderer, and demand 3 over the archive's samples.
+//! The archives against the renderer, and demand 3 over the archive's samples.
 //!
 //! `DRIVE_SEED` and `DRIVE_COUNT` set the random drives; see the crate.
 

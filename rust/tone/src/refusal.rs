@@ -10,6 +10,7 @@ pub const VOICE_LENGTH: u32 = 28;
 /// Why a call was refused. A refused call has changed nothing.
 ///
 /// ```
+/// # #[cfg(feature = "player")] {
 /// use tone::Voice;
 ///
 /// let refusal = Voice::open(2.0, 0).unwrap_err();
@@ -18,6 +19,7 @@ pub const VOICE_LENGTH: u32 = 28;
 ///     refusal.to_string(),
 ///     "refused 10: the rate is not from 1/16 up to below 2^(T+1)"
 /// );
+/// # }
 /// ```
 #[derive(Clone, Copy, Debug, PartialEq, Eq)]
 pub struct Refusal {

@@ -1,18 +1,27 @@
-//! The C header and the C example: both are compiled as their users would, and
-//! the example prints what stands beside it.
+//! The C headers, the C examples and the archives: the headers and examples are
+//! compiled as their users would, each example with the archives that it needs
+//! and no other, and prints what stands beside it.
 
 use std::env;
 use std::fs;
 use std::path::{Path, PathBuf};
 use std::process::{Command, Output};
+use std::sync::atomic::{AtomicU32, Ordering};
 
 const STRICT: [&str; 4] = ["-Wall", "-Wextra", "-Werror", "-pedantic"];
+const HEADERS: [&str; 3] = ["tone.h", "tone_builder.h", "tone_numbers.h"];
+
+/// A compiler, a standard and the language's name for `-x`.
+type Language = (&'static str, &'static str, &'static str);
+
+const C: Language = ("gcc", "-std=c99", "c");
+const CPP: Language = ("g++", "-std=c++98", "c++");
 
 fn repository() -> PathBuf {
     Path::new(env!("CARGO_MANIFEST_DIR")).join("../..")
 }
 
-/// Where the build script finds the archive, too.
+/// Where the build script finds the archives, too.
 fn archive_dir() -> PathBuf {
     match env::var_os("TONE_ARCHIVE_DIR") {
         Some(dir) => PathBuf::from(dir),
@@ -20,11 +29,20 @@ fn archive_dir() -> PathBuf {
     }
 }
 
-fn compiler(name: &str, standard: &str) -> Command {
+fn compiler((name, standard, language): Language) -> Command {
     let mut command = Command::new(name);
     command.arg(standard).args(STRICT);
     command.arg("-I").arg(repository().join("include"));
+    command.args(["-x", language]);
     command
+}
+
+fn has_cpp() -> bool {
+    let found = Command::new("g++").arg("--version").output().is_ok();
+    if !found {
+        eprintln!("no g++: C++ was not tried");
+    }
+    found
 }
 
 #[track_caller]
@@ -38,77 +56,213 @@ fn succeeded(command: &mut Command) -> Output {
 /// A folder that is removed at the end.
 struct Folder(PathBuf);
 
+impl Folder {
+    fn new() -> Folder {
+        static COUNT: AtomicU32 = AtomicU32::new(0);
+        let count = COUNT.fetch_add(1, Ordering::Relaxed);
+        let name = format!("tone-c-example-{}-{count}", std::process::id());
+        let path = env::temp_dir().join(name);
+        fs::create_dir(&path).unwrap();
+        Folder(path)
+    }
+}
+
 impl Drop for Folder {
     fn drop(&mut self) {
         let _ = fs::remove_dir_all(&self.0);
     }
 }
 
-/// Compiles the example, runs it and compares what it prints.
+/// The command that compiles an example and links it with some archives.
+fn linking(language: Language, example: &str, archives: &[&str], program: &Path) -> Command {
+    let mut compile = compiler(language);
+    compile.arg(repository().join(format!("examples/c/{example}.c")));
+    compile.args(["-x", "none", "-L"]).arg(archive_dir());
+    compile.args(archives.iter().map(|name| format!("-l{name}")));
+    compile.arg("-o").arg(program);
+    compile
+}
+
+/// Compiles an example, runs it and compares what it prints.
 #[track_caller]
-fn example_prints_what_it_should(name: &str, standard: &str, language: &str) {
-    let folder = format!("tone-c-example-{language}-{}", std::process::id());
-    let folder = Folder(env::temp_dir().join(folder));
-    fs::create_dir(&folder.0).unwrap();
-    let program = folder.0.join("bench_cases");
-    let example = repository().join("examples/c");
-    let mut compile = compiler(name, standard);
-    compile.args(["-x", language]);
-    compile.arg(example.join("bench_cases.c"));
-    compile.args(["-x", "none", "-ltone", "-L"]);
-    compile.arg(archive_dir()).arg("-o").arg(&program);
-    succeeded(&mut compile);
+fn prints_what_it_should(language: Language, example: &str, archives: &[&str]) {
+    let folder = Folder::new();
+    let program = folder.0.join(example);
+    succeeded(&mut linking(language, example, archives, &program));
     let printed = succeeded(&mut Command::new(&program)).stdout;
-    let expected = fs::read_to_string(example.join("bench_cases.txt")).unwrap();
+    let expected = repository().join(format!("examples/c/{example}.txt"));
+    let expected = fs::read_to_string(expected).unwrap();
     assert_eq!(String::from_utf8(printed).unwrap(), expected);
 }
 
-#[test]
-fn the_example_in_c() {
-    example_prints_what_it_should("gcc", "-std=c99", "c");
+/// Every example, with exactly the archives that it needs.
+fn examples_in(language: Language) {
+    prints_what_it_should(language, "studio", &["tone_builder"]);
+    prints_what_it_should(language, "unit", &["tone"]);
+    prints_what_it_should(language, "bench_cases", &["tone_builder", "tone"]);
+    prints_what_it_should(language, "bench_cases", &["tone", "tone_builder"]);
 }
 
 #[test]
-fn the_header_is_c_by_itself() {
-    let header = repository().join("include/tone.h");
-    for standard in ["-std=c99", "-std=c11"] {
-        let mut compile = compiler("gcc", standard);
-        succeeded(compile.args(["-fsyntax-only", "-x", "c"]).arg(&header));
-    }
-}
-
-fn has_cpp() -> bool {
-    let found = Command::new("g++").arg("--version").output().is_ok();
-    if !found {
-        eprintln!("no g++: C++ was not tried");
-    }
-    found
+fn the_examples_in_c() {
+    examples_in(C);
 }
 
 #[test]
-fn the_example_in_cpp() {
+fn the_examples_in_cpp() {
     if has_cpp() {
-        example_prints_what_it_should("g++", "-std=c++11", "c++");
+        examples_in(CPP);
+    }
+}
+
+/// The stores that the unit plays are those that the studio prints.
+#[test]
+fn the_unit_has_the_studio_s_stores() {
+    let read = |name: &str| fs::read_to_string(repository().join("examples/c").join(name)).unwrap();
+    let (studio, unit) = (read("studio.txt"), read("unit.c"));
+    for (letter, array) in [("B", "store_b[]"), ("C", "store_c[]")] {
+        let mut lines = studio.lines();
+        let words = lines.find_map(|line| line.strip_prefix(letter)?.strip_prefix(' '));
+        let words = words.unwrap().replace(' ', ", ");
+        let constant = format!("static const int32_t {array} = {{{words}}};");
+        assert!(unit.contains(&constant), "{constant}");
+    }
+}
+
+#[track_caller]
+fn does_not_link(example: &str, archive: &str, missing: &str) {
+    let folder = Folder::new();
+    let output = linking(C, example, &[archive], &folder.0.join(example)).output();
+    let output = output.unwrap();
+    let errors = String::from_utf8_lossy(&output.stderr);
+    assert!(
+        !output.status.success() && errors.contains(missing),
+        "{errors}"
+    );
+}
+
+#[test]
+fn an_example_needs_its_archive() {
+    does_not_link("studio", "tone", "tone_build");
+    does_not_link("unit", "tone_builder", "tone_play");
+    does_not_link("bench_cases", "tone", "tone_check");
+    does_not_link("bench_cases", "tone_builder", "tone_open");
+}
+
+/// The symbols of an archive, each with the letter that `nm` gives it.
+fn symbols(archive: &str) -> Vec<(String, String)> {
+    let mut nm = Command::new("nm");
+    nm.arg("-P")
+        .arg(archive_dir().join(format!("lib{archive}.a")));
+    let listed = String::from_utf8(succeeded(&mut nm).stdout).unwrap();
+    let symbol = |line: &str| {
+        let mut parts = line.split(' ');
+        Some((parts.next()?.to_owned(), parts.next()?.to_owned()))
+    };
+    listed.lines().filter_map(symbol).collect()
+}
+
+/// What an archive defines for others to link, and what it needs of others.
+fn exported_and_needed(archive: &str) -> (Vec<String>, Vec<String>) {
+    let symbols = symbols(archive);
+    let named = |is: fn(&str) -> bool| {
+        let chosen = symbols.iter().filter(|(_, letter)| is(letter));
+        let mut names: Vec<String> = chosen.map(|(name, _)| name.clone()).collect();
+        names.sort();
+        names
+    };
+    let global = |letter: &str| letter != "U" && letter.chars().all(char::is_uppercase);
+    (named(global), named(|letter| letter == "U"))
+}
+
+#[test]
+fn each_archive_exports_its_half_and_needs_no_other() {
+    let (builder, builder_needs) = exported_and_needed("tone_builder");
+    let (player, player_needs) = exported_and_needed("tone");
+    assert_eq!(builder, ["tone_build", "tone_check", "tone_store_words"]);
+    assert_eq!(
+        player,
+        [
+            "tone_glide",
+            "tone_jump",
+            "tone_open",
+            "tone_play",
+            "tone_seek"
+        ]
+    );
+    // of the C library at most what copies and fills
+    for name in builder_needs.iter().chain(&player_needs) {
+        assert!(
+            ["memcpy", "memmove", "memset"].contains(&&name[..]),
+            "{name}"
+        );
+    }
+}
+
+/// Nothing of the player is inside the builder's archive, and no builder inside
+/// the player's: functions keep their crates' names there.
+#[test]
+fn no_archive_holds_the_other_s_code() {
+    let holds = |archive: &str, part: &str| {
+        let symbols = symbols(archive);
+        symbols.iter().any(|(name, _)| name.contains(part))
+    };
+    assert!(holds("tone_builder", "book::") && holds("tone", "player::"));
+    for part in ["player::", "values::", "marshal::"] {
+        assert!(!holds("tone_builder", part), "{part}");
+    }
+    for part in ["levels::halving", "levels::store", "levels::groups"] {
+        assert!(!holds("tone", part), "{part}");
     }
 }
 
 #[test]
-fn the_header_is_cpp_by_itself() {
-    let header = repository().join("include/tone.h");
-    for standard in ["-std=c++98", "-std=c++17"] {
-        if has_cpp() {
-            let mut compile = compiler("g++", standard);
-            succeeded(compile.args(["-fsyntax-only", "-x", "c++"]).arg(&header));
+fn the_headers_are_c_by_themselves() {
+    for standard in ["-std=c99", "-std=c11"] {
+        for header in HEADERS {
+            let mut compile = compiler(("gcc", standard, "c"));
+            let header = repository().join("include").join(header);
+            succeeded(compile.arg("-fsyntax-only").arg(&header));
         }
     }
 }
 
-/// The header's constants are the library's.
 #[test]
-fn the_header_and_the_library_agree() {
-    let header = fs::read_to_string(repository().join("include/tone.h")).unwrap();
+fn the_headers_are_cpp_by_themselves() {
+    for standard in ["-std=c++98", "-std=c++17"] {
+        for header in HEADERS {
+            if has_cpp() {
+                let mut compile = compiler(("g++", standard, "c++"));
+                let header = repository().join("include").join(header);
+                succeeded(compile.arg("-fsyntax-only").arg(&header));
+            }
+        }
+    }
+}
+
+/// Both headers in one file, in either order, and twice.
+#[test]
+fn the_headers_go_together() {
+    let folder = Folder::new();
+    for (at, order) in [[0, 1, 0], [1, 0, 1]].iter().enumerate() {
+        let lines = order.map(|header| format!("#include \"{}\"\n", HEADERS[header]));
+        let use_both = "int both(void);\nint both(void) { return TONE_VOICE_WORDS; }\n";
+        let file = folder.0.join(format!("both{at}.c"));
+        fs::write(&file, lines.concat() + use_both).unwrap();
+        succeeded(compiler(C).arg("-fsyntax-only").arg(&file));
+        if has_cpp() {
+            succeeded(compiler(CPP).arg("-fsyntax-only").arg(&file));
+        }
+    }
+}
+
+/// The headers' constants are the library's.
+#[test]
+fn the_headers_and_the_library_agree() {
+    let read = |name: &str| fs::read_to_string(repository().join("include").join(name)).unwrap();
+    let headers = HEADERS.map(read).concat();
     let constant = |name: &str| -> usize {
-        let mut lines = header
+        let mut lines = headers
             .lines()
             .filter_map(|line| line.strip_prefix("#define "));
         let value = lines.find_map(|line| line.strip_prefix(name)?.strip_prefix(' '));

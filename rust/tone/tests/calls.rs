@@ -76,13 +76,6 @@ fn cases_c_and_d() {
 }
 
 #[test]
-fn case_f() {
-    let book = book_k(1, 32, 16384);
-    assert_eq!(store_of(&book, &[1], 1), [256, 1]);
-    assert_eq!(store_of(&book, &[-1], 1), [-256, 0]);
-}
-
-#[test]
 fn case_g() {
     let book = book_k(1, 16384, 32767);
     assert_eq!(drive(&book, 0, &[32767; 3], &[1.0], 1).0, [32767]);
@@ -105,30 +98,6 @@ fn glides_of_case_h_and_after() {
     assert_eq!(rates(2.0, 1.0, 3)[0], 223_696_213);
     let expected = [167_772_160, 201_326_592, 234_881_024, 268_435_456];
     assert_eq!(rates(1.0, 2.0, 4), expected);
-}
-
-#[test]
-fn case_i() {
-    assert_eq!(store_words(3, 1), Some(5));
-    assert_eq!(store_words(1, 4), Some(5));
-    assert_eq!(store_words(1_048_576, 4), Some(2_031_616));
-    for (samples, top) in [
-        (0, 0),
-        (1_048_577, 0),
-        (usize::MAX, 4),
-        (1, 5),
-        (1, u32::MAX),
-    ] {
-        assert_eq!(store_words(samples, top), None);
-    }
-}
-
-#[test]
-fn case_j() {
-    assert_eq!(fixed_rate(&Voice::open(0.0625, 0).unwrap()), 8_388_608);
-    let below_two = f32::from_bits(2f32.to_bits() - 1);
-    assert_eq!(fixed_rate(&Voice::open(below_two, 0).unwrap()), 268_435_440);
-    assert_eq!(number(Voice::open(2.0, 0)), 10);
 }
 
 #[test]
@@ -258,15 +227,6 @@ fn voice_slices_of_another_length() {
             VOICE_LENGTH
         );
         assert_eq!((voice, out), (vec![77; length], [77; 2]));
-    }
-}
-
-#[test]
-fn a_refused_opening_writes_the_zero_record() {
-    for (rate, top, expected) in [(1.0, 5, 8), (32.0, 4, 10), (f32::NAN, 0, 10)] {
-        let mut voice = [77; VOICE_WORDS];
-        assert_eq!(archive::open(rate, top, &mut voice), expected);
-        assert_eq!(voice, [0; VOICE_WORDS]);
     }
 }
 

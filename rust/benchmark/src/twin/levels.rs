@@ -5,16 +5,18 @@ use super::halving::{Taps, MOST_REACH};
 
 /// The words of a store for S samples and top level T; 0 where one of them is
 /// outside its range.
-pub fn store_words(samples: usize, top: u32) -> usize {
-    if !(1..=1_048_576).contains(&samples) || top > 4 {
+pub fn store_words(sample_count: usize, top: u32) -> usize {
+    if !(1..=1_048_576).contains(&sample_count) || top > 4 {
         return 0;
     }
-    (0..=top).map(|level| level_length(samples, level)).sum()
+    (0..=top)
+        .map(|level| level_length(sample_count, level))
+        .sum()
 }
 
 /// Halved `level` times, rounded up each time.
-fn level_length(samples: usize, level: u32) -> usize {
-    (samples + (1 << level) - 1) >> level
+fn level_length(sample_count: usize, level: u32) -> usize {
+    (sample_count + (1 << level) - 1) >> level
 }
 
 /// The levels of a store.
@@ -25,8 +27,8 @@ pub(super) struct Levels<'a> {
 
 impl<'a> Levels<'a> {
     /// Numbers 8 and 9.
-    pub fn accepted(store: &'a [i32], samples: usize, top: u32) -> Result<Levels<'a>, u32> {
-        let needed = store_words(samples, top);
+    pub fn accepted(store: &'a [i32], sample_count: usize, top: u32) -> Result<Levels<'a>, u32> {
+        let needed = store_words(sample_count, top);
         if needed == 0 {
             return Err(8);
         }
@@ -36,7 +38,7 @@ impl<'a> Levels<'a> {
         let mut words: [&[i32]; 5] = [&[]; 5];
         let mut rest = store;
         for (level, words) in words.iter_mut().enumerate().take(top as usize + 1) {
-            (*words, rest) = rest.split_at(level_length(samples, level as u32));
+            (*words, rest) = rest.split_at(level_length(sample_count, level as u32));
         }
         Ok(Levels { words })
     }

@@ -1,7 +1,7 @@
 //! The player's rules written by hand for speed in safe Rust: what the proved
-//! archive's time is measured against.
+//! archives' time is measured against.
 //!
-//! Every call gives the archive's numbers, words and samples bit by bit. Sums
+//! Every call gives the archives' numbers, words and samples bit by bit. Sums
 //! are 64-bit integers, as in document 01; the code is for any x86-64. SSE2 has
 //! no product of signed 32-bit words, so products are scalar, and what costs is
 //! their number: 4N + B + 1 an output. All else is kept off them: tests, limits

@@ -9,12 +9,18 @@ use super::voice::{Voice, POINTS};
 
 impl Voice {
     /// Fills `out`, or gives the first of the numbers 1 to 9, 13 to 17 and 11.
-    pub fn play(&mut self, book: &[i32], store: &[i32], samples: usize, out: &mut [i16]) -> u32 {
+    pub fn play(
+        &mut self,
+        book: &[i32],
+        store: &[i32],
+        sample_count: usize,
+        out: &mut [i16],
+    ) -> u32 {
         let book = match Book::accepted(book) {
             Ok(book) => book,
             Err(number) => return number,
         };
-        let levels = match Levels::accepted(store, samples, self.top) {
+        let levels = match Levels::accepted(store, sample_count, self.top) {
             Ok(levels) => levels,
             Err(number) => return number,
         };

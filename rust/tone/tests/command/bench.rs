@@ -210,7 +210,7 @@ pub struct Stage {
     pub folder: Folder,
     pub book: Vec<i32>,
     pub store: Vec<i32>,
-    pub samples: usize,
+    pub sample_count: usize,
     pub top: u32,
 }
 
@@ -224,7 +224,7 @@ impl Stage {
             folder,
             book: book.to_vec(),
             store,
-            samples: samples.len(),
+            sample_count: samples.len(),
             top,
         }
     }
@@ -234,14 +234,14 @@ impl Stage {
         Stage::new(&K, &[0, 1000, 2000], 1)
     }
 
-    pub fn play_with(&self, samples: &str, top: &str, rate: &str, drive: &str) -> Output {
+    pub fn play_with(&self, sample_count: &str, top: &str, rate: &str, drive: &str) -> Output {
         let drive = self.folder.write("drive.txt", drive);
         let (book, store) = (self.folder.path("book.txt"), self.folder.path("hum.store"));
         run!(
             "play",
             book,
             store,
-            samples,
+            sample_count,
             top,
             "--",
             rate,
@@ -252,7 +252,7 @@ impl Stage {
 
     pub fn play(&self, rate: &str, drive: &str) -> Output {
         self.play_with(
-            &self.samples.to_string(),
+            &self.sample_count.to_string(),
             &self.top.to_string(),
             rate,
             drive,
@@ -262,7 +262,7 @@ impl Stage {
     pub fn perform(&self, voice: &mut Voice, count: usize) -> Vec<i16> {
         let mut out = vec![0; count];
         voice
-            .play(&self.book, &self.store, self.samples, &mut out)
+            .play(&self.book, &self.store, self.sample_count, &mut out)
             .unwrap();
         out
     }

@@ -97,7 +97,7 @@ pub struct PlayRequest {
     /// STORE
     pub store: PathBuf,
     /// S
-    pub samples: usize,
+    pub sample_count: usize,
     /// T
     pub top: u32,
     /// RATE
@@ -146,7 +146,7 @@ pub fn read(arguments: impl Iterator<Item = OsString>) -> Result<Request, Failur
             Ok(Request::Play(PlayRequest {
                 book: book.into(),
                 store: store.into(),
-                samples: sample_count(samples)?,
+                sample_count: sample_count(samples)?,
                 top: top_level(top)?,
                 rate: opening_rate(rate)?,
                 drive: drive.into(),

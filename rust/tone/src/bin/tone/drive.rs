@@ -116,7 +116,7 @@ pub struct Player<'a> {
     voice: Voice,
     book: &'a [i32],
     store: &'a [i32],
-    samples: usize,
+    sample_count: usize,
     out: Vec<i16>,
 }
 
@@ -131,13 +131,13 @@ impl<'a> Player<'a> {
         let refused = |refusal| Failure::refused("opening", refusal);
         let mut voice = Voice::open(request.rate, request.top).map_err(refused)?;
         voice
-            .play(book, store, request.samples, &mut [])
+            .play(book, store, request.sample_count, &mut [])
             .map_err(refused)?;
         Ok(Player {
             voice,
             book,
             store,
-            samples: request.samples,
+            sample_count: request.sample_count,
             // One more than a play may have is enough to have it refused.
             out: vec![0; MOST_OUTPUTS + 1],
         })
@@ -152,7 +152,8 @@ impl<'a> Player<'a> {
             Call::Play(count) => {
                 let count = count.min(self.out.len());
                 let out = &mut self.out[..count];
-                self.voice.play(self.book, self.store, self.samples, out)?;
+                self.voice
+                    .play(self.book, self.store, self.sample_count, out)?;
                 Ok(out)
             }
         }

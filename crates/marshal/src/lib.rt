@@ -1,0 +1,97 @@
+// The player's calls over words: a voice is a slice of 95 of them (`words`). Each call reads the voice from them, is the player's call,
+// and writes the voice back. A refusal writes nothing, but that opening writes the zero record. Number 28 is for a voice slice of
+// another length, and comes before all others.
+
+ghost use mathlib.Core.Path.{_≡_};
+ghost use lib.ListN.{length};
+ghost use Rattle.control.specs.declared.Order.the-variants.{Jump, Glide};
+ghost use Rattle.player.specs.Calls.{orderAnswer, seekAnswer};
+ghost use Rattle.marshal.specs.Words.{voiceLength};
+ghost use Rattle.marshal.specs.Calls.{crossed, openCrossing, returned, crossing, playCrossed, playCrossing};
+use crate::words::put_voice;
+use crate::words::voice_of;
+use control::Card;
+use control::Order;
+use player::Answer;
+use player::Voice;
+
+mod words; // a voice as words
+
+// Opens a voice.
+pub fn open(rate: f32, top: u32, voice: &mut [i32]) -> u32
+    ensures { λ r. ⌜ crossed r (now (voice .exit)) ≡ openCrossing (now (voice .entry)) (record { rate = rate; top = top }) ⌝ }
+{
+    if voice.len() != 95 {
+        return 28;
+    }
+    let a = Voice::open(Card { rate, top });
+    let v = a.voice;
+    put_voice(voice, v);
+    a.number
+}
+
+// Writes the voice of an accepted call, and hands on the number.
+fn returned(voice: &mut [i32], a: Answer) -> u32
+    requires { ⌜ length (now voice) ≡ voiceLength ⌝ }
+    ensures { λ r. ⌜ crossed r (now (voice .exit)) ≡ returned (now (voice .entry)) a ⌝ }
+{
+    if a.number != 0 {
+        return a.number;
+    }
+    let v = a.voice;
+    put_voice(voice, v);
+    0
+}
+
+// Orders a jump to a rate.
+pub fn jump(voice: &mut [i32], rate: f32) -> u32
+    ensures { λ r. ⌜ crossed r (now (voice .exit)) ≡ crossing (now (voice .entry)) (λ v. orderAnswer v (Jump rate)) ⌝ }
+{
+    if voice.len() != 95 {
+        return 28;
+    }
+    let a = voice_of(voice).order(Order::Jump(rate));
+    returned(voice, a)
+}
+
+// Orders a glide to a rate over `count` outputs.
+pub fn glide(voice: &mut [i32], rate: f32, count: u32) -> u32
+    ensures { λ r. ⌜ crossed r (now (voice .exit)) ≡ crossing (now (voice .entry)) (λ v. orderAnswer v (Glide rate count)) ⌝ }
+{
+    if voice.len() != 95 {
+        return 28;
+    }
+    let a = voice_of(voice).order(Order::Glide {
+        target: rate,
+        count,
+    });
+    returned(voice, a)
+}
+
+// Sets the position.
+pub fn seek(voice: &mut [i32], position: u64) -> u32
+    ensures { λ r. ⌜ crossed r (now (voice .exit)) ≡ crossing (now (voice .entry)) (λ v. seekAnswer v position) ⌝ }
+{
+    if voice.len() != 95 {
+        return 28;
+    }
+    let a = voice_of(voice).seek(position);
+    returned(voice, a)
+}
+
+// Fills the whole output slice. `sample_count` is the S that the store was built with.
+pub fn play(
+    voice: &mut [i32],
+    book: &[i32],
+    store: &[i32],
+    sample_count: usize,
+    out: &mut [i16],
+) -> u32
+    ensures { λ r. ⌜ playCrossed r (now (voice .exit)) (now (out .exit)) ≡ playCrossing (now (voice .entry)) (now (book .entry)) (now (store .entry)) «sample_count» (now (out .entry)) ⌝ }
+{
+    if voice.len() != 95 {
+        return 28;
+    }
+    let a = voice_of(voice).play(book, store, sample_count, out);
+    returned(voice, a)
+}

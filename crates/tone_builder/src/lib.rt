@@ -1,0 +1,40 @@
+// The level builder's archive, for C and Rust: what a studio needs to test a book and to build the levels of a recording. Nothing here
+// knows a voice.
+
+ghost use mathlib.Core.Path.{_≡_};
+ghost use Rattle.book.specs.Check.{bookNumber};
+ghost use Rattle.levels.specs.Build.{built, buildAnswer};
+ghost use Rattle.tone_builder.specs.Store.{storeWords};
+
+// 0 for an accepted book, else the first of the numbers 1 to 7.
+#[no_mangle]
+pub extern "C" fn tone_check(book: &[i32]) -> u32
+    ensures { λ r. ⌜ r ≡ bookNumber (now (book .entry)) ⌝ }
+{
+    book::check(book)
+}
+
+// The words of a store for `sample_count` samples and levels 0..top; 0 where one of the two is outside its range.
+#[no_mangle]
+pub extern "C" fn tone_store_words(sample_count: usize, top: u32) -> usize
+    ensures { λ r. ⌜ r ≡ storeWords «sample_count» top ⌝ }
+{
+    if sample_count < 1 {
+        return 0;
+    }
+    if 1048576 < sample_count {
+        return 0;
+    }
+    if 4 < top {
+        return 0;
+    }
+    levels::sizes::store_length(sample_count, top)
+}
+
+// Writes the levels of the samples to the head of the store.
+#[no_mangle]
+pub extern "C" fn tone_build(book: &[i32], samples: &[i16], top: u32, store: &mut [i32]) -> u32
+    ensures { λ r. ⌜ built r (now (store .exit)) ≡ buildAnswer (now (book .entry)) (now (samples .entry)) top (now (store .entry)) ⌝ }
+{
+    levels::build(book, samples, top, store)
+}

@@ -1,0 +1,91 @@
+//! A unit's program: plays bench cases B and C of document 01 from stores that a
+//! studio built, as constants. It knows no level builder and links no more than
+//! libtone.a. It prints what its twin in C prints, `examples/c/unit.txt`.
+
+use tone::{Refusal, Voice};
+
+/// What plays are lent.
+struct Hum {
+    book: [i32; 11],
+    store: &'static [i32],
+    sample_count: usize,
+}
+
+/// The top level of both stores.
+const TOP: u32 = 1;
+
+/// Case B: book K, and the store of the samples 0, 1000, 2000.
+const B: Hum = Hum {
+    book: [2, 1, 0, 0, 1, 0, 16384, 16384, -16384, 16384, 16384],
+    store: &[0, 256000, 512000, 0, 512000],
+    sample_count: 3,
+};
+
+/// Case C: book K with a fade of 4 points, and the store of 0, 1000, 0, 1000.
+const C: Hum = Hum {
+    book: [2, 1, 0, 0, 4, 0, 16384, 16384, -16384, 16384, 16384],
+    store: &[0, 256000, 0, 256000, 0, 0],
+    sample_count: 4,
+};
+
+impl Hum {
+    fn play(&self, voice: &mut Voice, out: &mut [i16]) -> Result<(), Refusal> {
+        voice.play(&self.book, self.store, self.sample_count, out)
+    }
+}
+
+/// Plays `count` outputs, `step` or fewer at a time, and prints them after the
+/// case's letter.
+fn print_played(
+    letter: char,
+    voice: &mut Voice,
+    hum: &Hum,
+    count: usize,
+    step: usize,
+) -> Result<(), Refusal> {
+    let mut out = vec![0; count];
+    for part in out.chunks_mut(step) {
+        hum.play(voice, part)?;
+    }
+    let samples: Vec<String> = out.iter().map(i16::to_string).collect();
+    println!("{letter} {}", samples.join(" "));
+    Ok(())
+}
+
+/// However a drive is cut into plays, its samples are the same.
+fn case_b() -> Result<(), Refusal> {
+    print_played('B', &mut Voice::open(2.0, TOP)?, &B, 3, 3)?;
+    print_played('B', &mut Voice::open(2.0, TOP)?, &B, 3, 1)
+}
+
+/// The jump crosses an octave: a fade of 4 points leads to level 1.
+fn case_c() -> Result<(), Refusal> {
+    let mut voice = Voice::open(1.0, TOP)?;
+    voice.jump(2.0)?;
+    print_played('C', &mut voice, &C, 2, 2)?;
+    println!("level {} is then current", voice.words()[1]);
+    Ok(())
+}
+
+/// A damaged voice is refused by its number, and nothing is written.
+fn refusal() -> Result<(), Refusal> {
+    let mut words = *Voice::open(1.0, TOP)?.words();
+    words[13] = -1; // the high word of P
+    let mut out = [77; 2];
+    if let Err(refusal) = B.play(&mut Voice::from_words(words), &mut out) {
+        println!("a voice beyond 2^60: number {}", refusal.number());
+    }
+    let kept = if out == [77; 2] {
+        "as it was"
+    } else {
+        "changed"
+    };
+    println!("the output is {kept}");
+    Ok(())
+}
+
+fn main() -> Result<(), Refusal> {
+    case_b()?;
+    case_c()?;
+    refusal()
+}

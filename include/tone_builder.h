@@ -1,0 +1,69 @@
+/*
+ * tone_builder.h: the driving tone's level builder, for C99 and C++. It is what a
+ * studio needs to prepare a recording, and knows no player.
+ *
+ * A filter book is tested, and the octave levels of a recorded 16-bit hum are
+ * built into a store, which a unit plays (tone.h). The calls are in
+ * libtone_builder.a, for x86-64; link with -ltone_builder. The archive needs the C
+ * library and nothing else. It shares no symbol with libtone.a: a program may link
+ * both.
+ *
+ *   const int32_t book[] = { .. };                  a filter book
+ *   tone_check(book, book_words);
+ *   size_t words = tone_store_words(sample_count, top);
+ *   int32_t *store = malloc(words * sizeof *store);
+ *   tone_build(book, book_words, samples, sample_count, top, store, words);
+ *
+ * tone_numbers.h has the promise that every call keeps, the rules on pointers,
+ * the numbers and the limits. On x86-64 a call takes less than 1 KB of stack
+ * (measured, not proved).
+ */
+
+#ifndef TONE_BUILDER_H
+#define TONE_BUILDER_H
+
+#include "tone_numbers.h"
+
+#ifdef __cplusplus
+extern "C" {
+#endif
+
+/*
+ * Tests a filter book.
+ *
+ * Numbers: 1 2 3 4 5 6 7.
+ * Writes:  nothing.
+ *
+ * The number is bookNumber of the book's words (crates/book/specs/Check.antt).
+ */
+uint32_t tone_check(const int32_t *book, size_t book_words);
+
+/*
+ * The words of a store for `sample_count` samples and the levels 0..`top`: S and
+ * its halves, each rounded up. 0 where S is outside 1..TONE_MOST_SAMPLES or T
+ * above TONE_MOST_TOP.
+ *
+ * The answer is storeWords of both (crates/tone_builder/specs/Store.antt).
+ */
+size_t tone_store_words(size_t sample_count, uint32_t top);
+
+/*
+ * Builds the octave levels 0..`top` of a recording into the store, one after
+ * another. S is `sample_count`.
+ *
+ * Numbers: 1 2 3 4 5 6 7, then 8 of S and T, then 9.
+ * Writes:  the first tone_store_words(sample_count, top) words of the store. The
+ *          words after them are left.
+ *
+ * Number and store are those of buildAnswer (crates/levels/specs/Build.antt).
+ * Words of level j lie within -2^(23+j)..2^(23+j).
+ */
+uint32_t tone_build(const int32_t *book, size_t book_words,
+                    const int16_t *samples, size_t sample_count, uint32_t top,
+                    int32_t *store, size_t store_words);
+
+#ifdef __cplusplus
+}
+#endif
+
+#endif

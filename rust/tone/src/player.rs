@@ -1,0 +1,153 @@
+//! The unit's half: a voice, with open, jump, glide, seek and play. It plays
+//! stores that a studio built.
+
+use crate::archive;
+use crate::Refusal;
+
+/// Words of a voice.
+pub const VOICE_WORDS: usize = 95;
+
+/// The most outputs of one play.
+pub const MOST_OUTPUTS: usize = 1_048_576;
+
+/// The most outputs of one glide.
+pub const MOST_GLIDE: u32 = 65_536;
+
+/// A voice: all that a drive has come to, as [`VOICE_WORDS`] words.
+///
+/// A field of 32 bits is one word, a field of 64 bits two, the low one first.
+/// Fields are unsigned, a word's bits being read as such; the points are signed.
+///
+/// | words | field |
+/// |---|---|
+/// | 0 | top level T |
+/// | 1 | the old level of a fade, or the current level where no fade runs |
+/// | 2 | the new level of a fade, or the current level where no fade runs |
+/// | 3 | i, the points of the fade so far |
+/// | 4, 5 | R, the rate times 2^27 |
+/// | 6, 7 | R0, the rate at which a glide began |
+/// | 8, 9 | R1, the rate to which it leads |
+/// | 10 | c, the glide's count of outputs, 0 where no glide runs |
+/// | 11 | j, the outputs of the glide so far |
+/// | 12, 13 | P, the position in 2^-28 of a sample of level 0 |
+/// | 14..94 | the history of 81 points, the newest first |
+///
+/// A voice made of any words is accepted or refused by number at each call.
+///
+/// ```
+/// use tone::Voice;
+///
+/// // Linear interpolation, no filters: document 01's book K.
+/// let book = [2, 1, 0, 0, 1, 0, 16384, 16384, -16384, 16384, 16384];
+/// // Level 0 of the samples 0, 1000, 2000: each times 256.
+/// let store = [0, 256_000, 512_000];
+///
+/// let mut voice = Voice::open(1.0, 0)?;
+/// let mut out = [0; 4];
+/// voice.play(&book, &store, 3, &mut out)?;
+/// assert_eq!(out, [500, 1500, 1000, 0]);
+/// # Ok::<(), tone::Refusal>(())
+/// ```
+#[derive(Clone, Debug, PartialEq, Eq)]
+pub struct Voice {
+    words: [i32; VOICE_WORDS],
+}
+
+impl Voice {
+    /// A fresh voice at a rate, for stores of top level `top`. Refused 8 for a
+    /// top level above 4, 10 for a rate not from 1/16 up to below 2^(T+1).
+    pub fn open(rate: f32, top: u32) -> Result<Voice, Refusal> {
+        let mut words = [0; VOICE_WORDS];
+        Refusal::answer(archive::open(rate, top, &mut words))?;
+        Ok(Voice { words })
+    }
+
+    /// The voice that these words are. Nothing is tested here; each call tests
+    /// the fields that it uses.
+    pub fn from_words(words: [i32; VOICE_WORDS]) -> Voice {
+        Voice { words }
+    }
+
+    /// The voice's words.
+    pub fn words(&self) -> &[i32; VOICE_WORDS] {
+        &self.words
+    }
+
+    /// Orders a jump to a rate, from the next output on. Refused 13, 15, 16 or
+    /// 17 for the voice, 10 for the rate.
+    ///
+    /// ```
+    /// let mut voice = tone::Voice::open(1.0, 1)?;
+    /// voice.jump(2.0)?;
+    /// assert_eq!(voice.words()[4], 1 << 28);
+    /// # Ok::<(), tone::Refusal>(())
+    /// ```
+    pub fn jump(&mut self, rate: f32) -> Result<(), Refusal> {
+        Refusal::answer(archive::jump(&mut self.words, rate))
+    }
+
+    /// Orders a glide from the present rate to another over `count` outputs.
+    /// Refused 13, 15, 16 or 17 for the voice, 10 for the rate, 11 for a count
+    /// outside 1..65536.
+    ///
+    /// ```
+    /// let mut voice = tone::Voice::open(1.0, 1)?;
+    /// assert_eq!(voice.glide(2.0, 0).unwrap_err().number(), 11);
+    /// voice.glide(2.0, 48000)?;
+    /// # Ok::<(), tone::Refusal>(())
+    /// ```
+    pub fn glide(&mut self, rate: f32, count: u32) -> Result<(), Refusal> {
+        Refusal::answer(archive::glide(&mut self.words, rate, count))
+    }
+
+    /// Sets the position, in 2^-28 of a sample of level 0, and nothing else.
+    /// Refused 13, 15, 16 or 17 for the voice, 12 for a position beyond 2^60.
+    ///
+    /// ```
+    /// let mut voice = tone::Voice::open(1.0, 1)?;
+    /// voice.seek(1 << 28)?; // the second sample
+    /// assert_eq!(voice.seek((1 << 60) + 1).unwrap_err().number(), 12);
+    /// # Ok::<(), tone::Refusal>(())
+    /// ```
+    pub fn seek(&mut self, position: u64) -> Result<(), Refusal> {
+        Refusal::answer(archive::seek(&mut self.words, position))
+    }
+
+    /// Fills `out` with the next samples. `sample_count` is the S that the
+    /// store was built with. Refused 1 to 9 for book and store, 13 to
+    /// 17 for the voice, 11 for more than 1048576 outputs; then neither `out`
+    /// nor the voice is changed.
+    ///
+    /// However a stretch of outputs is cut into plays, the samples and the
+    /// voice at its end are the same.
+    ///
+    /// ```
+    /// # let book = [2, 1, 0, 0, 1, 0, 16384, 16384, -16384, 16384, 16384];
+    /// # let store = [0, 256_000, 512_000];
+    /// let mut whole = tone::Voice::open(1.0, 0)?;
+    /// let mut cut = whole.clone();
+    /// let mut out = [0; 4];
+    /// whole.play(&book, &store, 3, &mut out)?;
+    /// let mut parts = [0; 4];
+    /// for part in parts.chunks_mut(3) {
+    ///     cut.play(&book, &store, 3, part)?;
+    /// }
+    /// assert_eq!((parts, cut), (out, whole));
+    /// # Ok::<(), tone::Refusal>(())
+    /// ```
+    pub fn play(
+        &mut self,
+        book: &[i32],
+        store: &[i32],
+        sample_count: usize,
+        out: &mut [i16],
+    ) -> Result<(), Refusal> {
+        Refusal::answer(archive::play(
+            &mut self.words,
+            book,
+            store,
+            sample_count,
+            out,
+        ))
+    }
+}
