@@ -4,7 +4,7 @@ pub mod Scaled
 pub mod Distance
 pub mod Related
 pub mod Calls
+pub mod Closeness
 pub mod Cuts
-pub mod Induction
 pub mod Theorem
 pub mod Instance

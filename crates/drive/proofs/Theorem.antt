@@ -9,7 +9,7 @@ use Rattle.drive.specs.Exact.{exactScale, exactFresh}
 use Rattle.drive.specs.Demand.{Setting, storeOf, Demand3}
 use Rattle.drive.proofs.Related.{Related, fresh, step, output-close, number-same, order-kept, seek-kept}
 use Rattle.drive.proofs.Cuts.{same-cuts}
-use Rattle.drive.proofs.Induction.{Steps, all-close}
+use Rattle.drive.proofs.Closeness.{Steps, all-close}
 
 -- the relation is kept by every call, and its outputs are close
 steps : (b samples rest : List ℤ) (card : Card) (s : Setting b samples card)
