@@ -44,7 +44,7 @@ fn run_right(book: &[i32], to: usize, next: usize, from: usize, count: usize) ->
 }
 
 // Number 6. The next phase's impulses lie N words on; after the last phase they are G_0[1], .., G_0[N−1] and 0.
-pub fn differences_right(book: &[i32], array: usize, taps: usize) -> bool
+pub(crate) fn differences_right(book: &[i32], array: usize, taps: usize) -> bool
     requires { ⌜ (sizesInRange (now book) ≡ true) × (length (now book) ≡ bookLength (sizesOf (now book))) ⌝ }
     requires { ⌜ (array ≡ sizesOf (now book) .phases * sizesOf (now book) .taps) × (taps ≡ sizesOf (now book) .taps) ⌝ }
     requires { ⌜ coefficientsInRange (now book) ≡ true ⌝ }

@@ -57,7 +57,7 @@ fn power_of_two(m: usize) -> bool
 }
 
 // Number 2.
-pub fn sizes_in_range(book: &[i32]) -> bool
+pub(crate) fn sizes_in_range(book: &[i32]) -> bool
     requires { ⌜ 5 ≤ length (now book) ⌝ }
     ensures { λ r. ⌜ r ≡ sizesInRange (now (book .entry)) ⌝ }
 {
@@ -97,7 +97,7 @@ fn words_in_range(book: &[i32], from: usize, count: usize) -> bool
 }
 
 // Number 4: the array of impulses, and the taps, which are all behind the array of differences.
-pub fn coefficients_in_range(book: &[i32], array: usize) -> bool
+pub(crate) fn coefficients_in_range(book: &[i32], array: usize) -> bool
     requires { ⌜ (sizesInRange (now book) ≡ true) × (length (now book) ≡ bookLength (sizesOf (now book))) ⌝ }
     requires { ⌜ array ≡ sizesOf (now book) .phases * sizesOf (now book) .taps ⌝ }
     ensures { λ r. ⌜ r ≡ coefficientsInRange (now (book .entry)) ⌝ }

@@ -64,7 +64,7 @@ fn tap_sum(taps: &[i32]) -> usize
 }
 
 // Number 7. The level taps lie from place `level` on, the decimation taps from place `decimation` on.
-pub fn sums_in_range(
+pub(crate) fn sums_in_range(
     book: &[i32],
     phases: usize,
     taps: usize,

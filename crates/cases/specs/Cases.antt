@@ -49,12 +49,13 @@ rate2 = ofBits binary32 0x4000_0000
 abbrev pub storeFor : List ℤ → List ℤ → ℕ → List ℤ
 storeFor b samples T = buildAnswer b samples T (replicate (storeLength (length samples) T) (pos 0)) .store
 
--- the voice that an opening returns, after an order, and what a play of n words on it leaves
+-- the voice that an opening returns, and what a play of n words on it leaves; the words that it is lent are no samples of any case, so that a play
+-- which is refused shows
 abbrev pub opened : Float → ℕ → Answer
 opened r T = openAnswer (record { rate = r; top = T })
 
 abbrev pub playedBy : List ℤ → List ℤ → Voice → ℕ → Played
-playedBy b samples v n = playAnswer b (storeFor b samples (v .control .top)) (length samples) v (replicate n (pos 0))
+playedBy b samples v n = playAnswer b (storeFor b samples (v .control .top)) (length samples) v (replicate n (pos 7))
 
 pub record Case : Type 0 where
   pub found : List ℤ

@@ -1,11 +1,11 @@
 -- Glides, points and outputs keep a control valid, and so do another rate in range, glide and position. Assumes nothing.
 use mathlib.Core.Path.{_≡_, refl, _∙_}
-use mathlib.Core.Bool.{Bool, true, false, not, cond}
+use mathlib.Core.Bool.{Bool, true, false, cond}
 use Prim.Native.Nat.{ℕ, suc, _+_, _-_, _^_, _≤_, _<_}
 use native.Mathlib.Nat.{min-le-right, mul-le-mul-right}
 use native.Mathlib.Decide.{ℕ-discrete}
 use native.Mathlib.Omega.{arith}
-use borrow.Author.Tests.{ltb-false, leb-true, eqb-false, eq-eqb, ne-eqb}
+use borrow.Author.Tests.{eq-eqb, ne-eqb}
 use lib.Dec.{eqb}
 use lib.IntN.{ℤ, pos, _+ℤ_, _-ℤ_, _*ℤ_}
 use lib.Signed.{_≤ℤ_}
@@ -16,10 +16,9 @@ use Rattle.arith.proofs.Floor.{floor-mono, floor-unique}
 use Rattle.control.specs.declared.Glide.{Glide}
 use Rattle.control.specs.declared.Fade.{Fade}
 use Rattle.control.specs.declared.Control.{Control}
-use Rattle.control.specs.Rate.{rateInRange, rateOf, advance}
-use Rattle.control.specs.Moves.{glideAfter, noGlide, noFade, freshControl, jumped, gliding, sought, glideRate, moveGlide, fadeTarget, pointPlan, fadeAfter, movePoint, moveOutput}
+use Rattle.control.specs.Rate.{advance}
+use Rattle.control.specs.Moves.{glideAfter, noFade, glideRate, moveGlide, fadeTarget, pointPlan, fadeAfter, movePoint, moveOutput}
 use Rattle.control.proofs.Rates.{rate-low, rate-high, asked-≤}
-use Rattle.arith.proofs.Tests.{||-left, ||-right}
 use Rattle.control.specs.Valid.{GlideValid, Valid}
 
 -- with another rate in range, glide and position

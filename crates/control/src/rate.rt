@@ -62,7 +62,7 @@ pub fn asked_level(rate: u64) -> u32
 }
 
 // One point on, stopping at 2^60.
-pub fn advanced(position: u64, rate: u64) -> u64
+pub(crate) fn advanced(position: u64, rate: u64) -> u64
     ensures { λ r. ⌜ r ≡ advance position rate ⌝ }
 {
     if 1152921504606846976 <= position {

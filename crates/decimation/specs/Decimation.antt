@@ -1,6 +1,6 @@
 -- An output from the newest points (document 01, "One output"). g, the book's decimation taps, are document 01's "halving taps".
 use mathlib.Core.List.{List}
-use Prim.Native.Nat.{ℕ, _+_, _*_, _^_}
+use Prim.Native.Nat.{_+_, _*_, _^_}
 use lib.IntN.{ℤ, pos, negsuc, natAbs, _-ℤ_, _*ℤ_}
 use Rattle.arith.specs.Floor.{near}
 use Rattle.arith.specs.Limit.{limit}

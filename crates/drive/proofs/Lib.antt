@@ -8,3 +8,4 @@ pub mod Closeness
 pub mod Cuts
 pub mod Theorem
 pub mod Instance
+pub mod Built

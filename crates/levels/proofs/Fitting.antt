@@ -15,7 +15,6 @@ use Rattle.levels.specs.Build.{storeNumber}
 
 pub record Fitting (b : List ℤ) (S T words : ℕ) : Type 0 where
   pub book : bookNumber b ≡ 0
-  pub samples-low : 1 ≤ S
   pub samples-high : S ≤ 1048576
   pub top-high : T ≤ 4
   pub room : storeLength S T ≤ words
@@ -33,7 +32,6 @@ fitting b S T words e =
     let samples = sizes .0 in
     record {
       book = none-first (bookNumber b) _ e;
-      samples-low = leb-true 1 S (search (&&-left, &&-right));
       samples-high = leb-true S 1048576 (search (&&-left, &&-right));
       top-high = leb-true T 4 (sizes .1);
       room = ltb-false words (storeLength S T) (condition-fails 8 _ (none-second (refuse 8 (not (samplesInRange S) || not (topInRange T))) _ e8));

@@ -1,7 +1,7 @@
 -- The laws of levels: how long each is, how large its words are, and where it lies among all of them. Assumes nothing.
 use mathlib.Core.Path.{_≡_, refl, sym, ap, _∙_}
 use mathlib.Core.List.{List, [], _++_, append-assoc}
-use Prim.Native.Nat.{ℕ, zero, suc, _+_, _*_, _^_, _≤_, _<_}
+use Prim.Native.Nat.{ℕ, zero, suc, _+_, _^_, _≤_}
 use native.Mathlib.Nat.{le-refl}
 use native.Mathlib.Numerals.{add-one}
 use native.Mathlib.Decide.{decLe}
@@ -10,16 +10,13 @@ use lib.IntN.{ℤ, pos, natAbs, _*ℤ_}
 use lib.ListN.{length, drop, length-append, length-map, List·getD-map}
 use Rattle.arith.specs.Lists.{at, part, overwrite}
 use Rattle.arith.proofs.Linear.{abs-*}
-use Rattle.arith.proofs.Floor.{near-bound}
-use Rattle.arith.proofs.Lists.{at-outside, length-tabulate, getD-tabulate}
 use Rattle.book.specs.Check.{tapSum}
-use Rattle.octave.specs.Octave.{halfLength, levelSum, levelWord, nextLevel}
+use Rattle.octave.specs.Octave.{halfLength, nextLevel}
 use Rattle.levels.specs.Sizes.{levelLength, levelStart, storeLength}
 use Rattle.levels.specs.Levels.{firstLevel, levelOf, levelsOf}
 use Rattle.octave.proofs.Octave.{length-next, next-bound}
 use Rattle.levels.proofs.Lengths.{levelStart-zero, storeLength-is, storeLength-suc}
 use Rattle.arith.proofs.Parts.{part-middle, overwrite-behind}
-use Rattle.book.proofs.Around.{around, around-bound}
 
 -- ---- how long
 

@@ -25,7 +25,7 @@ fn first_level(samples: &[i16], store: &mut [i32])
 }
 
 // Levels 0..top.
-pub fn write_levels(taps: &[i32], samples: &[i16], top: u32, store: &mut [i32])
+pub(crate) fn write_levels(taps: &[i32], samples: &[i16], top: u32, store: &mut [i32])
     requires { ⌜ (1 ≤ length (now taps)) × (length (now taps) ≤ 41) × (tapSum (now taps) ≤ 32768) ⌝ }
     requires { ⌜ (length (now samples) ≤ 1048576) × (top ≤ 4) × (storeLength (length (now samples)) top ≤ length (now store)) ⌝ }
     ensures { λ _. ⌜ now (store .exit) ≡ overwrite (now (store .entry)) 0 (levelsOf (now (taps .entry)) (now (samples .entry)) top) ⌝ }

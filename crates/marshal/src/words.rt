@@ -99,7 +99,7 @@ fn history_of(words: &[i32]) -> [i32; 81]
 }
 
 // The voice that the words hold.
-pub fn voice_of(words: &[i32]) -> Voice
+pub(crate) fn voice_of(words: &[i32]) -> Voice
     requires { ⌜ length (now words) ≡ voiceLength ⌝ }
     ensures { λ r. ⌜ r ≡ voiceOf (now (words .entry)) ⌝ }
 {
@@ -154,7 +154,7 @@ fn put_parts(words: &mut [i32], head: [i32; 14], history: [i32; 81])
 }
 
 // Writes a voice's words.
-pub fn put_voice(words: &mut [i32], v: Voice)
+pub(crate) fn put_voice(words: &mut [i32], v: Voice)
     requires { ⌜ length (now words) ≡ voiceLength ⌝ }
     ensures { λ _. ⌜ now (words .exit) ≡ wordsOf v ⌝ }
 {

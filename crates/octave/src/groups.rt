@@ -80,7 +80,7 @@ fn write_words(sums: &[i64], store: &mut [i32], place: usize)
 
 // Writes words n to n + 15 of the level above the `words` words from place `start` on, where all of it lies inside the level. Sixteen:
 // fewer sums are slower, and the compiler does not unroll loops over more.
-pub fn write_group(taps: &[i32], store: &mut [i32], start: usize, words: usize, n: usize)
+pub(crate) fn write_group(taps: &[i32], store: &mut [i32], start: usize, words: usize, n: usize)
     requires { ⌜ (1 ≤ length (now taps)) × (tapSum (now taps) ≤ 32768) × (length (now taps) ≤ 2 * n + 1) × (2 * n + length (now taps) + 30 ≤ words) × (start + words + n + 16 ≤ length (now store)) ⌝ }
     requires { ⌜ ((k : ℕ) → natAbs (at (part (now store) start words) k) ≤ 2 ^ 26) ⌝ }
     ensures { λ _. ⌜ now (store .exit) ≡ overwrite (now (store .entry)) (start + words + n) (part (nextLevel (now (taps .entry)) (part (now (store .entry)) start words)) n 16) ⌝ }

@@ -9,7 +9,7 @@ ghost use Rattle.arith.specs.Sum.{sumAround};
 ghost use Rattle.book.specs.Check.{tapSum};
 
 // The centre's product: the sum over the first tap alone.
-pub fn first_product(level: &[i32], taps: &[i32], centre: usize) -> i64
+pub(crate) fn first_product(level: &[i32], taps: &[i32], centre: usize) -> i64
     requires { ⌜ (1 ≤ length (now taps)) × (tapSum (now taps) ≤ 32768) × (centre < length (now level)) ⌝ }
     requires { ⌜ ((k : ℕ) → natAbs (at (now level) k) ≤ 2 ^ 29) ⌝ }
     ensures { λ r. ⌜ r ≡ sumAround 0 (λ k. at (now (taps .entry)) (natAbs k) *ℤ wordAt (now (level .entry)) (pos centre +ℤ k)) ⌝ }
@@ -18,7 +18,14 @@ pub fn first_product(level: &[i32], taps: &[i32], centre: usize) -> i64
 }
 
 // The sum over the taps up to tap k from the sum over those below it, given the places of the words k before and k after the centre.
-pub fn with_tap(level: &[i32], taps: &[i32], k: usize, before: usize, after: usize, sum: i64) -> i64
+pub(crate) fn with_tap(
+    level: &[i32],
+    taps: &[i32],
+    k: usize,
+    before: usize,
+    after: usize,
+    sum: i64,
+) -> i64
     requires { ⌜ (tapSum (now taps) ≤ 32768) × (1 ≤ k) × (k < length (now taps)) × (after ≡ before + k + k) × (after < length (now level)) ⌝ }
     requires { ⌜ ((i : ℕ) → natAbs (at (now level) i) ≤ 2 ^ 29) ⌝ }
     requires { ⌜ sum ≡ sumAround (pred k) (λ i. at (now taps) (natAbs i) *ℤ wordAt (now level) (pos (before + k) +ℤ i)) ⌝ }

@@ -1,30 +1,25 @@
 -- Blocks of outputs: what holds of a voice after n outputs where it held before them. Assumes nothing.
 use mathlib.Core.Path.{_≡_, refl, sym, ap, _∙_}
 use mathlib.Core.List.{List, _∷_}
-use Prim.Native.Nat.{ℕ, zero, suc, _+_, _-_, _*_, _^_, _≤_, _<_, pred}
-use native.Mathlib.Nat.{le-trans}
-use native.Mathlib.Numerals.{add-one}
+use Prim.Native.Nat.{ℕ, zero, suc, _^_, _≤_, _<_}
 use native.Mathlib.Decide.{decLt}
 use native.Mathlib.Omega.{arith}
-use lib.IntN.{ℤ, pos, natAbs, _+ℤ_, _-ℤ_, _*ℤ_}
+use lib.IntN.{ℤ, pos, natAbs}
 use lib.ListN.{length, take, length-take}
 use lib.Seq.{take-take, getD-take}
-use Rattle.arith.specs.Lists.{at, wordAt}
-use Rattle.arith.specs.Sum.{sumAround}
-use Rattle.arith.proofs.Linear.{linear}
+use Rattle.arith.specs.Lists.{at}
 use Rattle.arith.proofs.Lists.{at-outside, length-tabulate, getD-tabulate}
-use Rattle.arith.proofs.Sum.{sum-ext, sum-around}
-use Rattle.book.specs.Book.{sizesOf, decimationTaps}
-use Rattle.book.proofs.Accepted.{Accepted, decimationTaps-length}
+use Rattle.book.specs.Book.{sizesOf}
+use Rattle.book.proofs.Accepted.{Accepted}
 use Rattle.player.specs.declared.Voice.{Voice}
 use Rattle.control.specs.declared.Control.{Control}
 use Rattle.control.specs.declared.Plan.{Plan}
 use Rattle.control.specs.Moves.{moveGlide, movePoint, pointPlan}
 use Rattle.player.specs.Outputs.{push, pushTwo, nextVoice, voiceAfter, outputs}
-use Rattle.decimation.specs.Decimation.{outputSum, output}
+use Rattle.decimation.specs.Decimation.{output}
 use Rattle.points.specs.Points.{point}
 use Rattle.control.specs.Valid.{Valid}
-use Rattle.control.proofs.Kept.{moveGlide-valid, movePoint-valid, moveOutput-valid, moveOutput-top, plan-old, plan-new, plan-step, plan-position}
+use Rattle.control.proofs.Kept.{moveGlide-valid, movePoint-valid, moveOutput-valid, moveOutput-top}
 use Rattle.player.proofs.Histories.{pushTwo-all}
 use Rattle.refusals.proofs.Valid.{Within}
 use Rattle.points.proofs.Points.{point-small}

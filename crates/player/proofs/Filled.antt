@@ -1,13 +1,12 @@
 -- What a filled block says after i outputs, and that a run more keeps it. Assumes nothing.
-use mathlib.Core.Path.{_≡_, refl, sym, ap, ap₂, _∙_}
-use mathlib.Core.List.{List, [], _∷_, _++_, append-assoc, append-nil}
+use mathlib.Core.Path.{_≡_, sym, ap, _∙_}
+use mathlib.Core.List.{List, [], _++_}
 use Prim.Native.Nat.{ℕ, zero, suc, _+_, _-_, _*_, _^_, _≤_, _<_}
 use native.Mathlib.Nat.{add-zero, add-suc}
-use native.Mathlib.Decide.{decLt}
 use native.Mathlib.Omega.{arith}
 use lib.IntN.{ℤ, pos, natAbs}
-use lib.ListN.{length, take, drop, replicate, length-take, length-drop, length-replicate}
-use lib.Seq.{paste, length-paste, take-all, drop-at, drop-drop, drop-length, getD-take, getD-drop, length-take-le}
+use lib.ListN.{length, take, drop, replicate, length-replicate}
+use lib.Seq.{paste, length-paste, take-all, drop-drop}
 use Rattle.arith.specs.Lists.{at, part, tabulate, overwrite}
 use Rattle.arith.proofs.Lists.{part-length}
 use Rattle.arith.proofs.Parts.{paste-run, length-overwrite, drop-overwrite, overwrite-end, overwrite-every, take-every, drop-every, zeros-every}

@@ -1,26 +1,18 @@
 -- The laws of histories: which words a push leaves where. Assumes nothing.
 use mathlib.Core.Path.{_≡_, refl, ap, _∙_}
 use mathlib.Core.List.{List}
-use Prim.Native.Nat.{ℕ, zero, suc, _+_, _*_, _≤_, _<_, pred}
-use native.Mathlib.Nat.{le-trans, mul-le-mul-right}
+use Prim.Native.Nat.{ℕ, zero, suc, _≤_, _<_}
 use native.Mathlib.Decide.{decLt}
 use native.Mathlib.Omega.{arith}
-use lib.IntN.{ℤ, pos, natAbs, _-ℤ_, _*ℤ_}
+use lib.IntN.{ℤ, pos}
 use lib.ListN.{length, take, length-take}
 use lib.Seq.{getD-take}
 use Rattle.arith.specs.Lists.{at}
-use Rattle.arith.specs.Sum.{sum, total}
 use Rattle.arith.proofs.Lists.{at-outside}
-use Rattle.arith.proofs.Ring.{products, terms}
-use Rattle.arith.proofs.Sum.{sum-ext, sum-abs-*, total-around, sum-linear}
-use Rattle.book.specs.Book.{sizesOf, decimationTaps}
-use Rattle.book.specs.Check.{tapSum}
-use Rattle.book.proofs.Accepted.{Accepted, decimationTaps-length, decimationTaps-sum}
 use Rattle.control.specs.declared.Control.{Control}
 use Rattle.control.specs.declared.Plan.{Plan}
 use Rattle.control.specs.Moves.{moveGlide, pointPlan, movePoint}
 use Rattle.player.specs.Outputs.{push, pushTwo}
-use Rattle.decimation.specs.Decimation.{outputSum}
 
 -- ---- one more point
 

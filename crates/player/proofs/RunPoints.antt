@@ -1,17 +1,13 @@
 -- The laws of a run of outputs: its control, its points and the histories along it, and the line of points that holds them. Assumes
 -- nothing.
 use mathlib.Core.Path.{_≡_, refl, sym, ap, ap₂, _∙_}
-use mathlib.Core.List.{List, _∷_, _++_, append-assoc}
-use Prim.Native.Nat.{ℕ, zero, suc, _+_, _-_, _*_, _≤_, _<_}
+use mathlib.Core.List.{List, _∷_, _++_}
+use Prim.Native.Nat.{ℕ, zero, suc}
 use native.Mathlib.Omega.{arith}
-use lib.IntN.{ℤ, pos}
-use lib.ListN.{length, take, drop}
-use lib.Seq.{take-take, drop-at, length-take-le}
-use Rattle.arith.specs.Lists.{at, tabulate, overwrite}
-use Rattle.arith.proofs.Lists.{tabulate-ext}
+use lib.IntN.{ℤ}
+use lib.ListN.{take}
+use lib.Seq.{take-take}
 use Rattle.book.specs.Book.{sizesOf}
-use Rattle.control.specs.declared.Control.{Control}
-use Rattle.control.specs.declared.Plan.{Plan}
 use Rattle.player.specs.declared.Voice.{Voice}
 use Rattle.control.specs.Moves.{moveOutput}
 use Rattle.points.specs.Points.{point}

@@ -114,7 +114,13 @@ fn table_pays(outputs: usize, phases: usize, taps: usize) -> bool
 }
 
 // Fills the output slice, and hands back the voice after it.
-pub fn fill(v: Voice, book: &[i32], store: &[i32], sample_count: usize, out: &mut [i16]) -> Voice
+pub(crate) fn fill(
+    v: Voice,
+    book: &[i32],
+    store: &[i32],
+    sample_count: usize,
+    out: &mut [i16],
+) -> Voice
     requires { ⌜ (bookNumber (now book) ≡ 0) × («sample_count» ≤ 1048576) × Valid (sizesOf (now book) .fade) (v .control) ⌝ }
     requires { ⌜ (levelStart «sample_count» (v .control .top + 1) ≤ length (now store)) × ((k : ℕ) → k < 81 → natAbs (at (v .history) k) ≤ 2 ^ 29) ⌝ }
     ensures voice { λ r. ⌜ r ≡ voiceAfter (now (book .entry)) (now (store .entry)) «sample_count» v (length (now (out .entry))) ⌝ }

@@ -2,7 +2,7 @@
 use mathlib.Core.Bool.{Bool, true, false, cond}
 use mathlib.Core.Path.{_≡_, refl}
 use mathlib.Core.List.{List}
-use Prim.Native.Nat.{ℕ, _+_, _-_, _^_, _≤_}
+use Prim.Native.Nat.{ℕ, _-_, _^_, _≤_}
 use native.Mathlib.Omega.{arith}
 use lib.Dec.{eqb}
 use lib.IntN.{ℤ, pos, natAbs, _+ℤ_, _*ℤ_}
@@ -12,7 +12,7 @@ use Rattle.arith.proofs.Integers.{abs-triangle}
 use Rattle.arith.proofs.Floor.{near-bound}
 use Rattle.book.specs.Book.{sizesOf}
 use Rattle.book.proofs.Accepted.{Accepted, sizes-bounded}
-use Rattle.values.specs.Values.{value, storeLevel, levelValue}
+use Rattle.values.specs.Values.{value}
 use Rattle.values.proofs.Values.{mean-≤, value-small}
 use Rattle.control.specs.declared.Plan.{Plan}
 use Rattle.points.specs.Points.{point}

@@ -1,7 +1,7 @@
 -- Definitions that only inner functions' contracts cite: no rule of document 01, but a step of the code that computes one.
 use mathlib.Core.Bool.{cond}
 use mathlib.Core.List.{List}
-use Prim.Native.Nat.{ℕ, _-_}
+use Prim.Native.Nat.{_-_}
 use lib.Dec.{eqb}
 use lib.IntN.{ℤ, pos, _+ℤ_, _*ℤ_}
 use Rattle.arith.specs.Floor.{near}

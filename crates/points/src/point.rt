@@ -21,7 +21,7 @@ fn faded(old: i32, new: i32, step: u32, fade: u32) -> i32
 }
 
 // A point from its plan and the words of its two levels.
-pub fn point_of(book: &[i32], layout: Layout, old: &[i32], new: &[i32], p: Plan) -> i32
+pub(crate) fn point_of(book: &[i32], layout: Layout, old: &[i32], new: &[i32], p: Plan) -> i32
     requires { ⌜ SizesIn (now book) layout × (length (now old) ≤ 1048576) × (length (now new) ≤ 1048576) ⌝ }
     requires { ⌜ (p .old ≤ 4) × (p .new ≤ 4) × (p .step ≤ layout .fade) × (p .position ≤ 2 ^ 60) ⌝ }
     ensures { λ r. ⌜ r ≡ levelsPoint (now (book .entry)) (now (old .entry)) (now (new .entry)) p ⌝ }

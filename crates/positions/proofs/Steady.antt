@@ -1,13 +1,11 @@
 -- The laws of points without a fade: the plan is the current level at P, and only P moves. Assumes nothing.
 use mathlib.Core.Path.{_≡_, refl, sym}
 use mathlib.Core.Bool.{Bool, true, false, cond}
-use mathlib.Core.List.{List}
 use Prim.Native.Nat.{ℕ, _+_, _^_, _≤_, _<_}
 use native.Mathlib.Nat.{min-le-left, le-min}
 use native.Mathlib.Omega.{arith}
 use borrow.Author.Tests.{ltb-true, eq-eqb, ne-eqb}
 use lib.Dec.{eqb, ltb}
-use lib.IntN.{ℤ}
 use Rattle.control.specs.declared.Control.{Control}
 use Rattle.control.specs.Rate.{askedLevel, advance}
 use Rattle.control.specs.Moves.{noFade, moveGlide, fadeTarget, pointPlan, fadeAfter, movePoint}

@@ -11,13 +11,13 @@ use control::Glide;
 use control::moves::glide_after;
 
 // A number divided by c: the floor, and the rest in 0..c−1.
-pub struct Quotient {
+pub(crate) struct Quotient {
     pub floor: i64,
     pub rest: u32,
 }
 
 // Rates in 2^-23: that of output i of a run is the floor of start + slope × i.
-pub struct Rates {
+pub(crate) struct Rates {
     pub start: i64,
     pub slope: i64,
 }
@@ -57,7 +57,7 @@ fn rate_quotient(g: Glide) -> Quotient
 }
 
 // The rates of the next outputs: along the glide, or R.
-pub fn rates_of(c: Control) -> Rates
+pub(crate) fn rates_of(c: Control) -> Rates
     requires { ⌜ ControlFits c ⌝ }
     ensures { λ r. ⌜ RatesOf c r ⌝ }
 {
@@ -79,7 +79,7 @@ pub fn rates_of(c: Control) -> Rates
 }
 
 // The rate of output i of a run.
-pub fn rate_at(r: Rates, i: usize) -> u64
+pub(crate) fn rate_at(r: Rates, i: usize) -> u64
     requires { ⌜ (natAbs (r .start) ≤ 2 ^ 56) × (natAbs (r .slope) ≤ 2 ^ 56) × (i ≤ 64) × (pos 0 ≤ℤ (r .start +ℤ r .slope *ℤ pos i)) ⌝ }
     ensures { λ x. ⌜ ((R : ℕ) → (pos (2 ^ 23 * R)) ≤ℤ (r .start +ℤ r .slope *ℤ pos i) → (r .start +ℤ r .slope *ℤ pos i) <ℤ (pos (2 ^ 23 * R + 2 ^ 23)) → x ≡ R) ⌝ }
 {
@@ -87,7 +87,7 @@ pub fn rate_at(r: Rates, i: usize) -> u64
 }
 
 // How many of `count` outputs come before the end of the glide: all where there is none.
-pub fn outputs_left(g: Glide, count: usize) -> usize
+pub(crate) fn outputs_left(g: Glide, count: usize) -> usize
     requires { ⌜ ((g .count ≡ 0 → ⊥) → GlideFits g) ⌝ }
     ensures { λ r. ⌜ (r ≤ count) × leftOf g r ⌝ }
 {
@@ -99,7 +99,7 @@ pub fn outputs_left(g: Glide, count: usize) -> usize
 }
 
 // The glide after i outputs more.
-pub fn glide_at(g: Glide, i: usize) -> Glide
+pub(crate) fn glide_at(g: Glide, i: usize) -> Glide
     requires { ⌜ (i ≤ 64) × ((g .count ≡ 0 → ⊥) → GlideFits g) ⌝ }
     ensures { λ r. ⌜ r ≡ glideAt g i ⌝ }
 {

@@ -42,7 +42,7 @@ fn control_at(c: Control, i: usize, rate: u64, position: u64) -> Control
     }
 }
 
-// Moves the control along up to `count` outputs that need no fade, and writes the positions of their points. None from 2^60 − 2^40 on, where P may
+// Moves the control along up to `count` outputs that need no fade, and writes the positions of their points. None beyond 2^60 − 2^40, where P may
 // reach its end.
 pub fn steady_positions(c: Control, fade: u32, count: usize, positions: &mut [u64]) -> Run
     requires { ⌜ Valid fade c × (c .fade .step ≡ 0) × (count ≤ 64) × (1 ≤ fade) × (fade ≤ 256) × (length (now positions) ≡ 128) ⌝ }

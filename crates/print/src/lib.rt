@@ -15,7 +15,7 @@ pub fn next_integer(x: i32) {
 }
 
 // A blank, and then the sample.
-pub fn next_sample(x: i16) {
+fn next_sample(x: i16) {
     next_integer(x as i32);
 }
 

@@ -1,9 +1,7 @@
 // The numbers of the calls, each call's in its order.
 
 ghost use mathlib.Core.Path.{_≡_};
-ghost use Prim.Native.Nat.{_^_, _≤_};
-ghost use lib.ListN.{length};
-ghost use Rattle.book.specs.Book.{sizesOf};
+ghost use Prim.Native.Nat.{_≤_};
 ghost use Rattle.refusals.specs.Refusals.{pointBound, levelsWrong, fadeWrong, rateWrong, glideWrong, historyWrong, lateNumber, openNumber, orderNumber, seekNumber, playStateNumber, playNumber};
 use control::Card;
 use control::Control;

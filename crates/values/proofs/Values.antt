@@ -1,25 +1,22 @@
 -- The laws of level values: how large they are, and that a value is linear in the words that it reads. Assumes nothing.
-use mathlib.Core.Path.{_≡_, refl, ap₂, _∙_}
-use mathlib.Core.Bool.{Bool, true, false, cond}
+use mathlib.Core.Path.{_≡_, ap₂, _∙_}
 use mathlib.Core.List.{List}
 use Prim.Native.Nat.{ℕ, suc, _+_, _*_, _-_, _/_, _%_, _^_, _≤_, _<_}
 use native.Mathlib.Nat.{le-trans, mul-le-mul-right, mod-lt, div-lt-iff-lt-mul}
 use native.Mathlib.Omega.{arith}
-use lib.IntN.{ℤ, pos, negℤ, natAbs, _+ℤ_, _-ℤ_, _*ℤ_, *ℤ-comm}
+use lib.IntN.{ℤ, pos, natAbs, _+ℤ_, _-ℤ_, _*ℤ_, *ℤ-comm}
 use lib.Pow.{pow-pos, pow-mono, pow-add}
-use lib.Signed.{ltZ, _≤ℤ_, ≤ℤ-refl}
 use Rattle.arith.specs.Lists.{wordAt}
 use Rattle.arith.specs.Sum.{total}
-use Rattle.arith.proofs.Linear.{linear, lt-yes, lt-no, abs-*}
+use Rattle.arith.proofs.Linear.{linear, abs-*}
 use Rattle.arith.proofs.Ring.{products, terms}
-use Rattle.arith.proofs.Integers.{<ℤ-≤ℤ, abs-≤, ≤-abs, ≤ℤ-antisymm, abs-triangle}
+use Rattle.arith.proofs.Integers.{abs-triangle}
 use Rattle.arith.proofs.Floor.{near-bound}
 use Rattle.arith.proofs.Limit.{limit-bound}
 use Rattle.arith.proofs.Sum.{sum-ext, sum-abs-*, total-*, total-≤, total-+, total-reverse, sum-linear}
 use Rattle.book.specs.Book.{sizesOf, impulse}
 use Rattle.book.specs.Check.{phaseSum}
 use Rattle.book.proofs.Accepted.{Accepted, sizes-bounded, difference-is, phaseSum-bound}
-use Rattle.arith.specs.Limit.{limit}
 use Rattle.values.specs.Values.{limitedWord, storeLevel, unit, phaseAt, offsetAt, coefficient, valueSum, levelValue, value}
 
 -- ---- a limited word

@@ -9,7 +9,7 @@ ghost use Rattle.arith.specs.Lists.{at, wordAt};
 ghost use Rattle.book.specs.Book.{sizesOf};
 ghost use Rattle.book.specs.Check.{bookNumber};
 ghost use Rattle.arith.specs.Limit.{limit};
-ghost use Rattle.values.specs.Values.{levelValue, value};
+ghost use Rattle.values.specs.Values.{levelValue};
 ghost use Rattle.values.specs.Inner.{windowSum, restOf};
 
 // The sums of a level's words times impulses, and times differences.

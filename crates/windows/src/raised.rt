@@ -10,14 +10,14 @@ ghost use Rattle.windows.specs.Inner.{Raised, PlaceFits, SumsFit, placeO
 use values::value::mixed;
 
 // Where a value's coefficients and words begin, and its offset in 2^-32.
-pub struct Place {
+pub(crate) struct Place {
     pub row: usize,
     pub first: usize,
     pub offset: u64,
 }
 
 // The sums of raised words times the raised impulses of a phase, and of the next one.
-pub struct RowSums {
+pub(crate) struct RowSums {
     pub impulses: i64,
     pub next: i64,
 }
@@ -120,7 +120,7 @@ fn row_value(s: RowSums, table: &[i64], totals: &[i64], taps: usize, p: Place) -
 
 // A run's values, an even number of them, four at a time, written to a line of points, newest first. The window begins at `start`, and `up` shifts
 // a distance from there to 2^-32 words.
-pub fn four_points(
+pub(crate) fn four_points(
     line: &mut [i64],
     positions: &[u64],
     count: usize,

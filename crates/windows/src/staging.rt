@@ -97,7 +97,7 @@ fn limited_words(window: &mut [i64], words: &[i32], level: u32, first: u64, half
 }
 
 // The same, where words that limiting leaves as they are are copied.
-pub fn staged(
+pub(crate) fn staged(
     window: &mut [i64],
     words: &[i32],
     level: u32,
@@ -160,7 +160,7 @@ fn raised_limited_words(
 }
 
 // The same, where words that limiting leaves as they are are raised as they stand.
-pub fn staged_raised(
+pub(crate) fn staged_raised(
     window: &mut [i64],
     totals: &mut [i64],
     words: &[i32],

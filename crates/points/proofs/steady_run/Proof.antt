@@ -7,7 +7,7 @@ use native.Mathlib.Omega.{arith}
 use lib.IntN.{ℤ}
 use lib.ListN.{length, getD, take, drop}
 use lib.Seq.{getD-take}
-use Rattle.arith.specs.Lists.{part, tabulate, overwrite}
+use Rattle.arith.specs.Lists.{tabulate, overwrite}
 use Rattle.arith.proofs.Lists.{part-length, overwrite-none}
 use Rattle.book.proofs.Accepted.{accepted, sizes-bounded}
 use Rattle.control.specs.declared.Control.{Control}

@@ -3,8 +3,10 @@ use borrow.Author.Needs.{needs}
 use borrow.Author.Tests.{eq-eqb, ne-eqb}
 use mathlib.Core.Bool.{true, false}
 use mathlib.Core.Path.{_≡_, ap, _∙_}
-use Prim.Native.Nat.{_%_}
-use lib.Dec.{eqb}
+use Prim.Native.Nat.{ℕ, _%_, _<_}
+use native.Mathlib.Nat.{le-trans}
+use lib.Dec.{eqb, lit≤}
+use lib.ListN.{length}
 use lib.IntN.{pos, natAbs}
 use Rattle.arith.specs.Lists.{at}
 use Rattle.arith.specs.Tests.{within}
@@ -13,6 +15,10 @@ use Rattle.book.specs.Book.{sizesOf}
 use Rattle.book.specs.Check.{powerOfTwo, sizesInRange}
 use Rattle.book.proofs.ranges.sizes_in_range.Statement.{statement}
 use Rattle.book.proofs.ranges.sizes_in_range.Tie as tie
+
+-- each of the five words is there
+has-word : (s : tie.Start) {k : ℕ} → k < 5 → k < length (s .args .book .now)
+has-word s h = le-trans h (s .pre)
 
 -- ---- what each test shows where it holds
 
@@ -38,14 +44,14 @@ decimation-within : (c : tie.Else6) → within (pos 0) (pos 40) (at (c .before .
 decimation-within c = test-holds (c .before .word-between4 .ensures) (c .if6 .left)
 
 word-between-requires : tie.Need-word-between-requires
-word-between-requires c κs = search needs
+word-between-requires c κs = has-word c (lit≤ tt)
 
 returns : tie.Need-returns
 unfolding sizesInRange sizesOf
 returns c = simp (test-fails (c .before .word-between .ensures) (c .if1 .taken))
 
 word-size-requires : tie.Need-word-size-requires
-word-size-requires c κs = search needs
+word-size-requires c κs = has-word (c .before .before) (lit≤ tt)
 
 returns-2 : tie.Need-returns-2
 unfolding sizesInRange sizesOf
@@ -54,7 +60,7 @@ returns-2 c =
     simp (taps-within (c .before .before), odd)
 
 word-between-requires-2 : tie.Need-word-between-requires-2
-word-between-requires-2 c κs = search needs
+word-between-requires-2 c κs = has-word (c .before .before .before .before) (lit≤ tt)
 
 returns-3 : tie.Need-returns-3
 unfolding sizesInRange sizesOf
@@ -63,7 +69,7 @@ returns-3 c =
     simp (taps-within (e2 .before .before), taps-even e2, test-fails (c .before .word-between2 .ensures) (c .if3 .taken))
 
 word-size-requires-2 : tie.Need-word-size-requires-2
-word-size-requires-2 c κs = search needs
+word-size-requires-2 c κs = has-word (c .before .before .before .before .before .before) (lit≤ tt)
 
 power-of-two-requires : tie.Need-power-of-two-requires
 power-of-two-requires c κs = search needs
@@ -76,7 +82,7 @@ returns-4 c =
     simp (taps-within (e2 .before .before), taps-even e2, phases-within e3, test-fails (power (c .before)) (c .if4 .taken))
 
 word-between-requires-3 : tie.Need-word-between-requires-3
-word-between-requires-3 c κs = search needs
+word-between-requires-3 c κs = has-word (c .before .before .before .before .before .before .before .before .before) (lit≤ tt)
 
 returns-5 : tie.Need-returns-5
 unfolding sizesInRange sizesOf
@@ -87,7 +93,7 @@ returns-5 c =
     simp (taps-within (e2 .before .before), taps-even e2, phases-within e3, phases-power e4, test-fails (c .before .word-between3 .ensures) (c .if5 .taken))
 
 word-between-requires-4 : tie.Need-word-between-requires-4
-word-between-requires-4 c κs = search needs
+word-between-requires-4 c κs = has-word (c .before .before .before .before .before .before .before .before .before .before .before) (lit≤ tt)
 
 returns-6 : tie.Need-returns-6
 unfolding sizesInRange sizesOf
@@ -106,7 +112,7 @@ returns-6 c =
     )
 
 word-between-requires-5 : tie.Need-word-between-requires-5
-word-between-requires-5 c κs = search needs
+word-between-requires-5 c κs = has-word (c .before .before .before .before .before .before .before .before .before .before .before .before .before) (lit≤ tt)
 
 returns-7 : tie.Need-returns-7
 unfolding sizesInRange sizesOf

@@ -11,8 +11,7 @@ use lib.ListN.{length, drop, length-drop}
 use Rattle.arith.specs.Lists.{at, overwrite}
 use Rattle.arith.proofs.Lists.{at-outside, paste-none, paste-whole}
 use Rattle.book.specs.Book.{sizesOf}
-use Rattle.book.proofs.Bounds.{length-is}
-use Rattle.book.proofs.Accepted.{Accepted, accepted, sizes-bounded}
+use Rattle.book.proofs.Accepted.{Accepted, accepted}
 use Rattle.control.specs.declared.Control.{Control}
 use Rattle.player.specs.declared.Voice.{Voice}
 use Rattle.player.specs.Outputs.{voiceAfter, outputs}

@@ -1,12 +1,10 @@
 -- `values::layout::layout_of` meets its contract: the sizes are the book's, and the places those of the levels. Assumes nothing.
-use mathlib.Core.Path.{_≡_, refl, ap}
-use Prim.Native.Nat.{ℕ}
+use mathlib.Core.Path.{refl, ap}
 use native.Mathlib.Omega.{arith}
 use borrow.Author.Needs.{needs}
 use Rattle.book.specs.Book.{sizesOf}
 use Rattle.book.proofs.Bounds.{length-is}
 use Rattle.book.proofs.Accepted.{Accepted, accepted, sizes-bounded}
-use Rattle.values.specs.Layout.{LevelsIn, SizesIn, LayoutOf}
 use Rattle.values.proofs.layout.layout_of.Statement.{statement}
 use Rattle.values.proofs.layout.layout_of.Tie as tie
 
