@@ -5,7 +5,6 @@
 set -euo pipefail
 cd "$(dirname "${BASH_SOURCE[0]}")/.."
 
-readonly below=(arith book levels values player marshal) # each stands on those before it
 readonly archives=(tone_builder tone)
 readonly programs=rust/target/release
 readonly book=examples/book/book.txt drive=examples/drive.txt
@@ -14,30 +13,23 @@ readonly top=2 rate=1 hertz=48000
 
 fail() { printf 'run.sh: %s\n' "$*" >&2; exit 1; }
 
-# Reads what rt says of a crate, and shows how long that takes: on a terminal each second, else at the end.
-watch() { # WHAT CRATE
-    local began=$SECONDS line took=
-    printf '%s ..' "$1"
-    while :; do
-        if IFS= read -r -t 1 line; then
-            [[ $line != "rt: $2 proved (unchanged"* ]] || took='proved before'
-        elif (($? <= 128)); then
-            break # the end; a pause has a status above
-        elif [[ -t 1 ]]; then
-            printf '\r%s .. %s s' "$1" $((SECONDS - began))
+# Shows a line for each crate that rt has proved.
+show() {
+    local line
+    while IFS= read -r line; do
+        if [[ $line =~ ^rt:\ ([a-z_]+)\ proved\ \(([0-9]+\ s)\)$ ]]; then
+            printf '  %s, %s\n' "${BASH_REMATCH[1]}" "${BASH_REMATCH[2]}"
         fi
     done
-    if [[ -t 1 ]]; then printf '\r%s ..' "$1"; fi
-    printf ' %s\n' "${took:-$((SECONDS - began)) s}"
 }
 
-# Runs rt on a crate, and shows what it said only where it fails.
-prove() { # WHAT COMMAND CRATE
-    local log=target/log/run.$3
+# Runs rt, and shows all that it said only where it fails.
+prove() { # WORDS FOR RT
+    local log=target/log/run
     mkdir -p target/log
-    rt "$2" "$3" 2>&1 | tee "$log" | watch "$1" "$3" || {
+    rt "$@" 2>&1 | tee "$log" | show || {
         tail -n 40 "$log" | cut -c 1-300 >&2
-        fail "rt $2 $3 failed; $log has all that it said"
+        fail "rt $* failed; $log has all that it said"
     }
 }
 
@@ -45,8 +37,12 @@ for tool in rt cargo; do
     command -v "$tool" >/dev/null || fail "$tool is not on the path"
 done
 
-for crate in "${below[@]}"; do prove "proving $crate" check "$crate"; done
-for archive in "${archives[@]}"; do prove "proving $archive and writing lib$archive.a" staticlib "$archive"; done
+echo 'Proving the level builder and the player: some minutes where nothing is proved yet, a line for each crate'
+prove check marshal tone_builder # all that the archives stand on
+for archive in "${archives[@]}"; do
+    echo "Writing lib$archive.a"
+    prove staticlib "$archive"
+done
 cargo build --release --manifest-path rust/Cargo.toml --target-dir rust/target -p tone -p hum
 
 "$programs/hum" "$hum"
