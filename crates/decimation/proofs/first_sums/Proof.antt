@@ -1,4 +1,4 @@
--- `player::decimation::first_sums` meets its contract: the points and their products with the tap fit. Assumes nothing.
+-- `decimation::first_sums` meets its contract: the points and their products with the tap fit. Assumes nothing.
 use Prim.Native.Nat.{ℕ, _+_}
 use native.Mathlib.Omega.{arith}
 use borrow.Author.Needs.{needs}

@@ -1,4 +1,4 @@
--- `player::decimation::four_sums` meets its contract. The loop's invariant: each sum is the one over the taps below k. Assumes nothing.
+-- `decimation::four_sums` meets its contract. The loop's invariant: each sum is the one over the taps below k. Assumes nothing.
 use mathlib.Core.Path.{_≡_}
 use mathlib.Core.List.{List}
 use Prim.Native.Nat.{ℕ, _+_, _-_, _^_, _≤_, _<_}

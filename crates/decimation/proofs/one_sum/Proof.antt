@@ -1,4 +1,4 @@
--- `player::decimation::one_sum` meets its contract. The loop's invariant: the sum's bits are those of the sum over the taps below k. Assumes nothing.
+-- `decimation::one_sum` meets its contract. The loop's invariant: the sum's bits are those of the sum over the taps below k. Assumes nothing.
 use mathlib.Core.Path.{_≡_, sym, ap}
 use mathlib.Core.List.{List}
 use Prim.Native.Nat.{ℕ, _+_, _-_, _<_}

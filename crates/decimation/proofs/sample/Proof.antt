@@ -1,4 +1,4 @@
--- `player::decimation::sample` meets its contract: each `return` rewrites by the tests that led there. Assumes nothing.
+-- `decimation::sample` meets its contract: each `return` rewrites by the tests that led there. Assumes nothing.
 use mathlib.Core.Path.{_≡_}
 use Prim.Native.Nat.{_^_}
 use native.Mathlib.Omega.{arith}

@@ -1,4 +1,4 @@
--- `player::decimation::tap_added` meets its contract: the points, their sum, its product with the tap and the result fit. Assumes nothing.
+-- `decimation::tap_added` meets its contract: the points, their sum, its product with the tap and the result fit. Assumes nothing.
 use Prim.Native.Nat.{ℕ, _+_, _-_, _^_, _≤_}
 use native.Mathlib.Omega.{arith}
 use borrow.Author.Needs.{needs}

@@ -1,4 +1,4 @@
--- `player::decimation::tap_step` meets its contract. The loop's invariant: k is even, and the even taps from 2 on below it are 0. Assumes nothing.
+-- `decimation::tap_step` meets its contract. The loop's invariant: k is even, and the even taps from 2 on below it are 0. Assumes nothing.
 use mathlib.Core.Path.{_≡_, refl, ap, _∙_}
 use mathlib.Core.List.{List}
 use Prim.Native.Nat.{ℕ, _+_, _-_, _*_, _%_, _≤_, _<_}

@@ -1,4 +1,4 @@
--- `player::decimation::taps_added` meets its contract: `tap_added` makes each of the four sums. Assumes nothing.
+-- `decimation::taps_added` meets its contract: `tap_added` makes each of the four sums. Assumes nothing.
 use mathlib.Core.Path.{_≡_, ap₂, _∙_}
 use Prim.Native.Nat.{ℕ, _+_, _-_, _^_, _≤_, _<_}
 use native.Mathlib.Omega.{arith}

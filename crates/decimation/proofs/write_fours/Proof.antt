@@ -1,4 +1,4 @@
--- `player::decimation::write_fours` meets its contract. The loop's invariant: the first i outputs are written. Assumes nothing.
+-- `decimation::write_fours` meets its contract. The loop's invariant: the first i outputs are written. Assumes nothing.
 use mathlib.Core.Path.{_≡_, ap, _∙_}
 use mathlib.Core.List.{List}
 use Prim.Native.Nat.{ℕ, _+_, _-_, _*_, _^_, _≤_, _<_}

@@ -1,4 +1,4 @@
--- `player::decimation::write_outputs` meets its contract: the outputs that are left are written behind those written by fours. Assumes nothing.
+-- `decimation::write_outputs` meets its contract: the outputs that are left are written behind those written by fours. Assumes nothing.
 use mathlib.Core.Path.{_≡_, ap, _∙_}
 use mathlib.Core.List.{List}
 use Prim.Native.Nat.{ℕ, _+_, _-_}

@@ -1,4 +1,4 @@
--- `player::decimation::write_sample` meets its contract. Assumes nothing.
+-- `decimation::write_sample` meets its contract. Assumes nothing.
 use mathlib.Core.Path.{ap}
 use borrow.Author.Needs.{needs}
 use lib.ListN.{set}

@@ -1,4 +1,4 @@
--- `levels::halving::centred_sum` meets its contract. The loop's invariant: the sum's bits are those of the sum over the taps below k. Assumes nothing.
+-- `octave::centred_sum` meets its contract. The loop's invariant: the sum's bits are those of the sum over the taps below k. Assumes nothing.
 use mathlib.Core.Path.{_≡_, sym, ap, _∙_}
 use Prim.Native.Nat.{ℕ, suc, _+_, _-_, _≤_}
 use native.Mathlib.Numerals.{add-one}

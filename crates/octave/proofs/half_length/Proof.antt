@@ -1,4 +1,4 @@
--- `levels::sizes::half_length` meets its contract. Assumes nothing.
+-- `octave::half_length` meets its contract. Assumes nothing.
 use borrow.Author.Needs.{needs}
 use Rattle.octave.proofs.Octave.{halfLength-rest}
 use Rattle.octave.proofs.half_length.Statement.{statement}

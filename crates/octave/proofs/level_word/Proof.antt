@@ -1,4 +1,4 @@
--- `levels::halving::level_word` meets its contract: either sum is the same one, and rounding it gives a word that fits. Assumes nothing.
+-- `octave::level_word` meets its contract: either sum is the same one, and rounding it gives a word that fits. Assumes nothing.
 use mathlib.Core.Path.{_≡_, ap, _∙_}
 use Prim.Native.Nat.{_*_, _^_, _≤_}
 use native.Mathlib.Nat.{le-refl, le-trans}

@@ -1,4 +1,4 @@
--- `levels::halving::next_level` meets its contract. The loop's invariant: the store is as it was, with the first n words of the level above written
+-- `octave::next_level` meets its contract. The loop's invariant: the store is as it was, with the first n words of the level above written
 -- behind the level. Assumes nothing.
 use mathlib.Core.Path.{_≡_, sym, ap, ap₂, _∙_}
 use mathlib.Core.List.{List}

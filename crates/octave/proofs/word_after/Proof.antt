@@ -1,4 +1,4 @@
--- `levels::halving::word_after` meets its contract: the word is read where its place is below the length. Assumes nothing.
+-- `octave::word_after` meets its contract: the word is read where its place is below the length. Assumes nothing.
 use mathlib.Core.Path.{sym}
 use Prim.Native.Nat.{_+_}
 use native.Mathlib.Omega.{arith}

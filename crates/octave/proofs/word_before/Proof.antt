@@ -1,4 +1,4 @@
--- `levels::halving::word_before` meets its contract: the word is read where its place is not below 0. Assumes nothing.
+-- `octave::word_before` meets its contract: the word is read where its place is not below 0. Assumes nothing.
 use mathlib.Core.Path.{sym}
 use Prim.Native.Nat.{_-_}
 use native.Mathlib.Omega.{arith}

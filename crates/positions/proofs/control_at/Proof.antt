@@ -1,4 +1,4 @@
--- `player::runs::control_at` meets its contract: the glide is what its call says. Assumes nothing.
+-- `positions::control_at` meets its contract: the glide is what its call says. Assumes nothing.
 use borrow.Author.Needs.{needs}
 use Rattle.positions.specs.Inner.{controlAt}
 use Rattle.positions.proofs.control_at.Statement.{statement}

@@ -1,4 +1,4 @@
--- `player::runs::steady_positions` meets its contract. The loop's invariant: `Along`, of the outputs so far. Assumes nothing.
+-- `positions::steady_positions` meets its contract. The loop's invariant: `Along`, of the outputs so far. Assumes nothing.
 use borrow.Author.Needs.{needs}
 use mathlib.Core.Path.{_≡_, refl, sym, subst, _∙_}
 use Prim.Native.Nat.{ℕ, suc, _+_, _-_, _*_, _^_, _≤_}

@@ -1,4 +1,4 @@
--- `player::refusals::fade_wrong` meets its contract: with i = 0, i is at least F only where F is 0. Assumes nothing.
+-- `refusals::fade_wrong` meets its contract: with i = 0, i is at least F only where F is 0. Assumes nothing.
 use borrow.Author.Needs.{needs}
 use mathlib.Core.Path.{_≡_, sym, _∙_}
 use Prim.Native.Nat.{ℕ, zero, suc}

@@ -1,4 +1,4 @@
--- `player::refusals::glide_wrong` meets its contract: it makes the tests of 15 in their order. Assumes nothing.
+-- `refusals::glide_wrong` meets its contract: it makes the tests of 15 in their order. Assumes nothing.
 use borrow.Author.Needs.{needs}
 use mathlib.Core.Path.{_≡_, sym, _∙_}
 use mathlib.Core.Bool.{false}

@@ -1,4 +1,4 @@
--- `player::refusals::history_wrong` meets its contract. The loop's invariant: the words passed lie within ±2^29. Assumes nothing.
+-- `refusals::history_wrong` meets its contract. The loop's invariant: the words passed lie within ±2^29. Assumes nothing.
 use mathlib.Core.Bool.{Bool, true, not}
 use mathlib.Core.List.{List}
 use mathlib.Core.Path.{_≡_, sym, refl, ap}

@@ -1,4 +1,4 @@
--- `player::refusals::late_number` meets its contract: it makes the tests of 15, 16 and 17 in their order. Assumes nothing.
+-- `refusals::late_number` meets its contract: it makes the tests of 15, 16 and 17 in their order. Assumes nothing.
 use borrow.Author.Needs.{needs}
 use mathlib.Core.Path.{_≡_, sym, _∙_}
 use mathlib.Core.Bool.{false}

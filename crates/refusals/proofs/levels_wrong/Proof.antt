@@ -1,4 +1,4 @@
--- `player::refusals::levels_wrong` meets its contract: it makes the tests of 13 in their order. Assumes nothing.
+-- `refusals::levels_wrong` meets its contract: it makes the tests of 13 in their order. Assumes nothing.
 use Rattle.arith.proofs.Tests.{tests}
 use Rattle.refusals.specs.Refusals.{levelsWrong}
 use Rattle.refusals.proofs.levels_wrong.Statement.{statement}

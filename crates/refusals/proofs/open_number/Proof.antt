@@ -1,4 +1,4 @@
--- `player::refusals::open_number` meets its contract: 8 for T, then 10. Assumes nothing.
+-- `refusals::open_number` meets its contract: 8 for T, then 10. Assumes nothing.
 use borrow.Author.Needs.{needs}
 use mathlib.Core.Path.{sym, _∙_}
 use Rattle.arith.proofs.Tests.{tests}

@@ -1,4 +1,4 @@
--- `player::refusals::order_number` meets its contract: 13, then 15 to 17, then 10, and for a glide 11. Assumes nothing.
+-- `refusals::order_number` meets its contract: 13, then 15 to 17, then 10, and for a glide 11. Assumes nothing.
 use borrow.Author.Needs.{needs}
 use mathlib.Core.Path.{_≡_, sym, ap, _∙_}
 use mathlib.Core.Bool.{false}

@@ -1,4 +1,4 @@
--- `player::refusals::play_number` meets its contract: 1 to 9 of the store, then those of the state; an accepted book has its five sizes.
+-- `refusals::play_number` meets its contract: 1 to 9 of the store, then those of the state; an accepted book has its five sizes.
 -- Assumes nothing.
 use borrow.Author.Needs.{needs}
 use mathlib.Core.Path.{_≡_, refl, sym, ap, _∙_}

@@ -1,4 +1,4 @@
--- `player::refusals::play_state_number` meets its contract: 13, 14, then 15 to 17, then 11. Assumes nothing.
+-- `refusals::play_state_number` meets its contract: 13, 14, then 15 to 17, then 11. Assumes nothing.
 use borrow.Author.Needs.{needs}
 use mathlib.Core.Path.{_≡_, sym, _∙_}
 use mathlib.Core.Bool.{false}

@@ -1,4 +1,4 @@
--- `player::refusals::rate_wrong` meets its contract: 2^(28 + T) is below 2^64, so that the shift loses nothing. Assumes nothing.
+-- `refusals::rate_wrong` meets its contract: 2^(28 + T) is below 2^64, so that the shift loses nothing. Assumes nothing.
 use borrow.Author.Needs.{needs}
 use mathlib.Core.Path.{_≡_, ap, _∙_}
 use Prim.Native.Nat.{_+_, _*_, _^_, _%_, _≤_}

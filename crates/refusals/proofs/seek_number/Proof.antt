@@ -1,4 +1,4 @@
--- `player::refusals::seek_number` meets its contract: 13, then 15 to 17, then 12. Assumes nothing.
+-- `refusals::seek_number` meets its contract: 13, then 15 to 17, then 12. Assumes nothing.
 use borrow.Author.Needs.{needs}
 use mathlib.Core.Path.{_≡_, sym, _∙_}
 use mathlib.Core.Bool.{false}

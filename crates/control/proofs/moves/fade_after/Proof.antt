@@ -1,4 +1,4 @@
--- `player::moves::fade_after` meets its contract: the code makes the definition's test. Assumes nothing.
+-- `control::moves::fade_after` meets its contract: the code makes the definition's test. Assumes nothing.
 use Rattle.arith.proofs.Tests.{tests}
 use Rattle.control.specs.Moves.{fadeAfter}
 use Rattle.control.proofs.moves.fade_after.Statement.{statement}

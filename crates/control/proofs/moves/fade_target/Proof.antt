@@ -1,4 +1,4 @@
--- `player::moves::fade_target` meets its contract: the code makes the definition's test. Assumes nothing.
+-- `control::moves::fade_target` meets its contract: the code makes the definition's test. Assumes nothing.
 use borrow.Author.Needs.{needs}
 use Rattle.arith.proofs.Tests.{tests}
 use Rattle.control.specs.Moves.{fadeTarget}

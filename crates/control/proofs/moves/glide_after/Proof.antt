@@ -1,4 +1,4 @@
--- `player::moves::glide_after` meets its contract: the code makes the definition's test. Assumes nothing.
+-- `control::moves::glide_after` meets its contract: the code makes the definition's test. Assumes nothing.
 use borrow.Author.Needs.{needs}
 use Rattle.arith.proofs.Tests.{tests}
 use Rattle.control.specs.Moves.{glideAfter}

@@ -1,4 +1,4 @@
--- `player::moves::glide_moved` meets its contract: of a valid glide output j + 1 is left, and both its rates lie below 2^32. Assumes nothing.
+-- `control::moves::glide_moved` meets its contract: of a valid glide output j + 1 is left, and both its rates lie below 2^32. Assumes nothing.
 use borrow.Author.Needs.{needs}
 use mathlib.Core.Path.{_≡_, ap, _∙_}
 use Prim.Native.Nat.{suc, _+_, _^_, _≤_}

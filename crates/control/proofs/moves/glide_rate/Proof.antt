@@ -1,4 +1,4 @@
--- `player::moves::glide_rate` meets its contract: the way is at most 2^48, and the rate is a mean of R0 and R1, so not negative. Assumes nothing.
+-- `control::moves::glide_rate` meets its contract: the way is at most 2^48, and the rate is a mean of R0 and R1, so not negative. Assumes nothing.
 use borrow.Author.Needs.{needs}
 use mathlib.Core.Path.{_≡_, ap, _∙_}
 use Prim.Native.Nat.{ℕ, _^_, _≤_, _<_}

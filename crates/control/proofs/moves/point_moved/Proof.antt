@@ -1,4 +1,4 @@
--- `player::moves::point_moved` meets its contract: each field is what its call says. Assumes nothing.
+-- `control::moves::point_moved` meets its contract: each field is what its call says. Assumes nothing.
 use borrow.Author.Needs.{needs}
 use Rattle.control.specs.Moves.{movePoint}
 use Rattle.control.proofs.moves.point_moved.Statement.{statement}

@@ -1,4 +1,4 @@
--- `player::moves::point_plan` meets its contract: the code makes the definition's test. Assumes nothing.
+-- `control::moves::point_plan` meets its contract: the code makes the definition's test. Assumes nothing.
 use borrow.Author.Needs.{needs}
 use mathlib.Core.Path.{sym}
 use native.Mathlib.Numerals.{add-one}

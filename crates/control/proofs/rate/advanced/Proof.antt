@@ -1,4 +1,4 @@
--- `player::rate::advanced` meets its contract: P + R is taken only where it stays below 2^60. Assumes nothing.
+-- `control::rate::advanced` meets its contract: P + R is taken only where it stays below 2^60. Assumes nothing.
 use borrow.Author.Needs.{needs}
 use native.Mathlib.Omega.{arith}
 use Rattle.control.specs.Rate.{advance}

@@ -1,4 +1,4 @@
--- `player::rate::asked_level` meets its contract: the code makes the definition's tests, in their order. Assumes nothing.
+-- `control::rate::asked_level` meets its contract: the code makes the definition's tests, in their order. Assumes nothing.
 use Rattle.arith.proofs.Tests.{tests}
 use Rattle.control.specs.Rate.{askedLevel}
 use Rattle.control.proofs.rate.asked_level.Statement.{statement}

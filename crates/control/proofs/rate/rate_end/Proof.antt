@@ -1,4 +1,4 @@
--- `player::rate::rate_end` meets its contract: each arm's constant is 2^(top + 1), by its bit pattern. Assumes nothing.
+-- `control::rate::rate_end` meets its contract: each arm's constant is 2^(top + 1), by its bit pattern. Assumes nothing.
 use mathlib.Core.Path.{_≡_, sym, ap}
 use mathlib.Core.Bool.{false}
 use Prim.Native.Nat.{ℕ, _+_}

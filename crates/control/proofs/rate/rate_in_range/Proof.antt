@@ -1,4 +1,4 @@
--- `player::rate::rate_in_range` meets its contract: the two float comparisons are the two tests of `rateInRange`. Assumes nothing.
+-- `control::rate::rate_in_range` meets its contract: the two float comparisons are the two tests of `rateInRange`. Assumes nothing.
 use borrow.Author.Needs.{needs}
 use mathlib.Core.Path.{ap, _∙_}
 use lib.Ieee.{ofBits, lt}

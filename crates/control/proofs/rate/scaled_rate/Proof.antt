@@ -1,4 +1,4 @@
--- `player::rate::scaled_rate` meets its contract: a rate has no place below 2^-27 and stays below 2^32, so neither the product nor the
+-- `control::rate::scaled_rate` meets its contract: a rate has no place below 2^-27 and stays below 2^32, so neither the product nor the
 -- casts round. Assumes nothing.
 use lib.Ieee.{ofBits}
 use Rattle.control.proofs.Rates.{not-nan, scaled-cast}

@@ -1,4 +1,4 @@
--- `levels::groups::add_tap` meets its contract. The loop's invariant: the first j sums have the tap. Assumes nothing.
+-- `octave::groups::add_tap` meets its contract. The loop's invariant: the first j sums have the tap. Assumes nothing.
 use mathlib.Core.Path.{_≡_, sym, ap, ap₂, _∙_}
 use mathlib.Core.List.{List}
 use Prim.Native.Nat.{ℕ, suc, _+_, _-_, _*_, _≤_, _<_, pred}

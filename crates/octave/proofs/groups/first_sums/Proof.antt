@@ -1,4 +1,4 @@
--- `levels::groups::first_sums` meets its contract. The loop's invariant: the first j sums are written. Assumes nothing.
+-- `octave::groups::first_sums` meets its contract. The loop's invariant: the first j sums are written. Assumes nothing.
 use mathlib.Core.Path.{_≡_, sym, ap, ap₂, _∙_}
 use mathlib.Core.List.{List}
 use Prim.Native.Nat.{ℕ, _+_, _-_, _≤_}

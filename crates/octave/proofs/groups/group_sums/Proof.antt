@@ -1,4 +1,4 @@
--- `levels::groups::group_sums` meets its contract. The loop's invariant: the sums are over the taps below k. Assumes nothing.
+-- `octave::groups::group_sums` meets its contract. The loop's invariant: the sums are over the taps below k. Assumes nothing.
 use mathlib.Core.Path.{_≡_, sym, ap, ap₂, _∙_}
 use mathlib.Core.List.{List}
 use Prim.Native.Nat.{ℕ, _+_, _-_, _≤_, pred}

@@ -1,4 +1,4 @@
--- `levels::groups::write_group` meets its contract: the sums are those of sixteen words, and rounding them gives the words. Assumes nothing.
+-- `octave::groups::write_group` meets its contract: the sums are those of sixteen words, and rounding them gives the words. Assumes nothing.
 use mathlib.Core.Path.{_≡_, ap, _∙_}
 use mathlib.Core.List.{List, map}
 use Prim.Native.Nat.{ℕ, _+_, _-_, _*_, _^_, _≤_, pred}

@@ -1,4 +1,4 @@
--- `levels::groups::write_words` meets its contract. The loop's invariant: the first j words are written. Assumes nothing.
+-- `octave::groups::write_words` meets its contract. The loop's invariant: the first j words are written. Assumes nothing.
 use mathlib.Core.Path.{_≡_, sym, ap, _∙_}
 use mathlib.Core.List.{List, map}
 use Prim.Native.Nat.{ℕ, _+_, _-_, _^_, _≤_}

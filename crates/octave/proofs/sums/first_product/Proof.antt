@@ -1,4 +1,4 @@
--- `levels::sums::first_product` meets its contract: the sum over one tap is its product. Assumes nothing.
+-- `octave::sums::first_product` meets its contract: the sum over one tap is its product. Assumes nothing.
 use mathlib.Core.Path.{sym}
 use mathlib.Core.List.{List}
 use Prim.Native.Nat.{ℕ}

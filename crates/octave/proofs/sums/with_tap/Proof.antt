@@ -1,4 +1,4 @@
--- `levels::sums::with_tap` meets its contract: one more tap adds its product with the two words. Assumes nothing.
+-- `octave::sums::with_tap` meets its contract: one more tap adds its product with the two words. Assumes nothing.
 use mathlib.Core.Path.{_≡_, sym, ap, _∙_}
 use mathlib.Core.List.{List}
 use Prim.Native.Nat.{ℕ, suc, _+_, _-_}

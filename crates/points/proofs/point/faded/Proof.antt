@@ -1,4 +1,4 @@
--- `player::points::faded` meets its contract: the weights add up to the fade's length, so that the mean of two values is no larger than they
+-- `points::point::faded` meets its contract: the weights add up to the fade's length, so that the mean of two values is no larger than they
 -- are. Assumes nothing.
 use mathlib.Core.Path.{_≡_}
 use Prim.Native.Nat.{ℕ, _*_, _-_, _^_, _≤_, _<_}

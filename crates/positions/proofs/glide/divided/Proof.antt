@@ -1,4 +1,4 @@
--- `player::glide::divided` meets its contract: c times the floor lies at most c below z, so each number fits. Assumes nothing.
+-- `positions::glide::divided` meets its contract: c times the floor lies at most c below z, so each number fits. Assumes nothing.
 use borrow.Author.Needs.{needs}
 use mathlib.Core.Path.{_≡_, sym, ap, subst, _∙_}
 use Prim.Native.Nat.{ℕ, _^_, _<_}

@@ -1,4 +1,4 @@
--- `player::glide::glide_at` meets its contract: the code makes the definition's test. Assumes nothing.
+-- `positions::glide::glide_at` meets its contract: the code makes the definition's test. Assumes nothing.
 use borrow.Author.Needs.{needs}
 use native.Mathlib.Omega.{arith}
 use borrow.Author.Tests.{eq-eqb, ne-eqb}

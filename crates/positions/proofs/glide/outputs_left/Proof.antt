@@ -1,4 +1,4 @@
--- `player::glide::outputs_left` meets its contract. Assumes nothing.
+-- `positions::glide::outputs_left` meets its contract. Assumes nothing.
 use borrow.Author.Needs.{needs}
 use native.Mathlib.Omega.{arith}
 use Rattle.positions.specs.Inner.{GlideFits}

@@ -1,4 +1,4 @@
--- `player::glide::rate_at` meets its contract: the number between 2^23 × R and 2^23 × (R + 1) has floor R. Assumes nothing.
+-- `positions::glide::rate_at` meets its contract: the number between 2^23 × R and 2^23 × (R + 1) has floor R. Assumes nothing.
 use borrow.Author.Needs.{needs}
 use Prim.Native.Nat.{ℕ, _+_, _*_, _^_, _≤_, _<_}
 use native.Mathlib.Omega.{arith}

@@ -1,4 +1,4 @@
--- `player::glide::rate_quotient` meets its contract: no number on the way is above 2^50. Assumes nothing.
+-- `positions::glide::rate_quotient` meets its contract: no number on the way is above 2^50. Assumes nothing.
 use borrow.Author.Needs.{needs}
 use Prim.Native.Nat.{_^_, _<_}
 use native.Mathlib.Omega.{arith}

@@ -1,4 +1,4 @@
--- `player::glide::rates_of` meets its contract: R as it is, or a glide's place and slope. Assumes nothing.
+-- `positions::glide::rates_of` meets its contract: R as it is, or a glide's place and slope. Assumes nothing.
 use borrow.Author.Needs.{needs}
 use mathlib.Core.Path.{_≡_, sym, ap, subst, _∙_}
 use Prim.Native.Nat.{_^_, _≤_, _<_}

@@ -1,4 +1,4 @@
--- `player::glide::scaled` meets its contract: the floor of (2^23 × z + c − 1) / c. Assumes nothing.
+-- `positions::glide::scaled` meets its contract: the floor of (2^23 × z + c − 1) / c. Assumes nothing.
 use borrow.Author.Needs.{needs}
 use mathlib.Core.Path.{_≡_, sym, subst}
 use Prim.Native.Nat.{ℕ, _^_, _<_}

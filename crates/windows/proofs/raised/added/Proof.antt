@@ -1,4 +1,4 @@
--- `values::raised::added` meets its contract: the words, their products and the new sums fit. Assumes nothing.
+-- `windows::raised::added` meets its contract: the words, their products and the new sums fit. Assumes nothing.
 use mathlib.Core.Path.{_≡_}
 use Prim.Native.Nat.{_+_, _^_, _≤_}
 use native.Mathlib.Omega.{arith}

@@ -1,4 +1,4 @@
--- `values::raised::four_points` meets its contract. The loop's invariant: the values of the positions passed, an even number of them, are
+-- `windows::raised::four_points` meets its contract. The loop's invariant: the values of the positions passed, an even number of them, are
 -- written, the newest in front; so two are left after it, or none. Assumes nothing.
 use mathlib.Core.Path.{_≡_, refl, sym, ap, subst, _∙_}
 use mathlib.Core.List.{List}

@@ -1,4 +1,4 @@
--- `values::raised::four_row_sums` meets its contract. The loop's invariant: the four sums are those of the words passed. Assumes nothing.
+-- `windows::raised::four_row_sums` meets its contract. The loop's invariant: the four sums are those of the words passed. Assumes nothing.
 use mathlib.Core.Path.{_≡_}
 use mathlib.Core.List.{List}
 use Prim.Native.Nat.{_-_, _≤_}

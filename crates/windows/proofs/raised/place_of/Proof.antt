@@ -1,4 +1,4 @@
--- `values::raised::place_of` meets its contract: the shift loses no bit, and no number after it is above 2^39. Assumes nothing.
+-- `windows::raised::place_of` meets its contract: the shift loses no bit, and no number after it is above 2^39. Assumes nothing.
 use mathlib.Core.Path.{_≡_, ap}
 use Prim.Native.Nat.{ℕ, _+_, _-_, _*_, _/_, _%_, _^_, _≤_}
 use native.Mathlib.Nat.{mod-eq-of-lt, mul-le-mul}

@@ -1,4 +1,4 @@
--- `values::raised::product` meets its contract: both numbers are not negative and below 2^32, so that the casts and the rests change nothing, and
+-- `windows::raised::product` meets its contract: both numbers are not negative and below 2^32, so that the casts and the rests change nothing, and
 -- their product is below 2^63. Assumes nothing.
 use mathlib.Core.Path.{_≡_, sym, ap₂, subst}
 use Prim.Native.Nat.{ℕ, _*_, _%_, _^_, _≤_, _<_}

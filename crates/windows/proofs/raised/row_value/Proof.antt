@@ -1,4 +1,4 @@
--- `values::raised::row_value` meets its contract: every difference on the way fits, and `mixed` makes the value of both parts. Assumes nothing.
+-- `windows::raised::row_value` meets its contract: every difference on the way fits, and `mixed` makes the value of both parts. Assumes nothing.
 use mathlib.Core.Path.{_≡_, _∙_}
 use Prim.Native.Nat.{_+_, _^_, _≤_}
 use native.Mathlib.Omega.{arith}

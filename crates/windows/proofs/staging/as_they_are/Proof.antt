@@ -1,4 +1,4 @@
--- `values::staging::as_they_are` meets its contract: words inside the level and within its limit are the window's as they stand. Assumes nothing.
+-- `windows::staging::as_they_are` meets its contract: words inside the level and within its limit are the window's as they stand. Assumes nothing.
 use mathlib.Core.Path.{_≡_, ap}
 use mathlib.Core.Bool.{true}
 use mathlib.Core.List.{List}

@@ -1,4 +1,4 @@
--- `values::staging::larger` meets its contract by its test. Assumes nothing.
+-- `windows::staging::larger` meets its contract by its test. Assumes nothing.
 use lib.Signed.{≤ℤ-refl}
 use Rattle.arith.proofs.Bits.{reads}
 use Rattle.arith.proofs.Integers.{<ℤ-≤ℤ}

@@ -1,4 +1,4 @@
--- `values::staging::limited_words` meets its contract. The loop's invariant: the words passed are written. Assumes nothing.
+-- `windows::staging::limited_words` meets its contract. The loop's invariant: the words passed are written. Assumes nothing.
 use mathlib.Core.Path.{_≡_, refl}
 use Prim.Native.Nat.{ℕ, _+_, _-_, _≤_, _<_}
 use native.Mathlib.Omega.{arith}

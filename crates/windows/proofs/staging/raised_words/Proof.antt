@@ -1,4 +1,4 @@
--- `values::staging::raised_words` meets its contract. The loop's invariant: the words passed are raised, with their totals. Assumes nothing.
+-- `windows::staging::raised_words` meets its contract. The loop's invariant: the words passed are raised, with their totals. Assumes nothing.
 use mathlib.Core.List.{List}
 use Prim.Native.Nat.{ℕ, _-_, _≤_, _<_}
 use native.Mathlib.Omega.{arith}

@@ -1,4 +1,4 @@
--- `values::staging::smaller` meets its contract by its test. Assumes nothing.
+-- `windows::staging::smaller` meets its contract by its test. Assumes nothing.
 use lib.Signed.{≤ℤ-refl}
 use Rattle.arith.proofs.Bits.{reads}
 use Rattle.arith.proofs.Integers.{<ℤ-≤ℤ}

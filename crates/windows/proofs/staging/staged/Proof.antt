@@ -1,4 +1,4 @@
--- `values::staging::staged` meets its contract: words that limiting leaves as they are are the window's. Assumes nothing.
+-- `windows::staging::staged` meets its contract: words that limiting leaves as they are are the window's. Assumes nothing.
 use mathlib.Core.Path.{_≡_, _∙_}
 use native.Mathlib.Omega.{arith}
 use borrow.Author.Needs.{needs}

@@ -1,4 +1,4 @@
--- `values::staging::staged_raised` meets its contract: words that limiting leaves as they are are those of the window. Assumes nothing.
+-- `windows::staging::staged_raised` meets its contract: words that limiting leaves as they are are those of the window. Assumes nothing.
 use mathlib.Core.Path.{_≡_, sym, _∙_}
 use mathlib.Core.List.{List}
 use Prim.Native.Nat.{ℕ, _^_, _≤_, _<_}

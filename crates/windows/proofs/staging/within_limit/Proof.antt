@@ -1,4 +1,4 @@
--- `values::staging::within_limit` meets its contract. The loop's invariant: every word passed lies between `low` and `high`. Assumes nothing.
+-- `windows::staging::within_limit` meets its contract. The loop's invariant: every word passed lies between `low` and `high`. Assumes nothing.
 use mathlib.Core.Path.{_≡_}
 use mathlib.Core.List.{List}
 use Prim.Native.Nat.{ℕ, _+_, _-_, _≤_, _<_}

@@ -1,4 +1,4 @@
--- `values::table::stage_row` meets its contract. The loop's invariant: the impulses passed are written, raised, with those of the next phase,
+-- `windows::table::stage_row` meets its contract. The loop's invariant: the impulses passed are written, raised, with those of the next phase,
 -- and the bits of both sums are those of the sums over them. Assumes nothing.
 use mathlib.Core.Path.{_≡_, refl, sym, ap, subst}
 use Prim.Native.Nat.{ℕ, _+_, _-_, _^_, _≤_}

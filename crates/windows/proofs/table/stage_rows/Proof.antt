@@ -1,4 +1,4 @@
--- `values::table::stage_rows` meets its contract. The loop's invariant: the rows of the phases passed are written; an accepted book's sizes and
+-- `windows::table::stage_rows` meets its contract. The loop's invariant: the rows of the phases passed are written; an accepted book's sizes and
 -- words are as `stage_row` asks. Assumes nothing.
 use mathlib.Core.Path.{_≡_, refl, ap₂}
 use mathlib.Core.List.{List}

@@ -1,4 +1,4 @@
--- `values::window::row_sums` meets its contract. The loop's invariant: an even number of words is passed, and the bits of both sums are those
+-- `windows::window::row_sums` meets its contract. The loop's invariant: an even number of words is passed, and the bits of both sums are those
 -- of the sums over them. Assumes nothing.
 use mathlib.Core.Path.{_≡_, refl, ap, _∙_}
 use mathlib.Core.List.{List}

@@ -1,4 +1,4 @@
--- `values::window::tap_value` meets its contract: the place is taken apart into word, phase and offset, and the two sums make the window's
+-- `windows::window::tap_value` meets its contract: the place is taken apart into word, phase and offset, and the two sums make the window's
 -- value. Assumes nothing.
 use mathlib.Core.Path.{_≡_, refl, ap, ap₂, _∙_}
 use mathlib.Core.List.{List}

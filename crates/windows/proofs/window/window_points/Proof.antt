@@ -1,4 +1,4 @@
--- `values::window::window_points` meets its contract. The loop's invariant: the values of the positions passed are written, the newest in front.
+-- `windows::window::window_points` meets its contract. The loop's invariant: the values of the positions passed are written, the newest in front.
 -- Assumes nothing.
 use mathlib.Core.Path.{_≡_, refl, ap, _∙_}
 use mathlib.Core.List.{List}

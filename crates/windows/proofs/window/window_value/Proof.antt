@@ -1,4 +1,4 @@
--- `values::window::window_value` meets its contract: 12 taps or another number, the call is the same. Assumes nothing.
+-- `windows::window::window_value` meets its contract: 12 taps or another number, the call is the same. Assumes nothing.
 use mathlib.Core.Path.{sym, _∙_}
 use native.Mathlib.Omega.{arith}
 use borrow.Author.Needs.{needs}
