@@ -208,10 +208,17 @@ fn no_archive_holds_the_other_s_code() {
         symbols.iter().any(|(name, _)| name.contains(part))
     };
     assert!(holds("tone_builder", "book::") && holds("tone", "player::"));
-    for part in ["player::", "values::", "marshal::"] {
+    for part in [
+        "player::",
+        "points::",
+        "values::",
+        "windows::",
+        "control::",
+        "marshal::",
+    ] {
         assert!(!holds("tone_builder", part), "{part}");
     }
-    for part in ["levels::halving", "levels::store", "levels::groups"] {
+    for part in ["octave::", "levels::store"] {
         assert!(!holds("tone", part), "{part}");
     }
 }
