@@ -14,17 +14,23 @@ fn changed(b: [i32; 11], i: usize, x: i32) -> [i32; 11] {
     b
 }
 
-// A name, a value x, and the check's number for K with word i changed to x.
-fn edited(name: &[u8], i: usize, x: i32) {
-    let b = changed(K, i, x);
+fn unchanged() {
+    io::write_all(1, b"K");
+    print::next_number(book::check(&K));
+    print::end_line();
+}
+
+// A name, a value x, and the check's number for a book with word i changed to x.
+fn edited(name: &[u8], b: [i32; 11], i: usize, x: i32) {
+    let c = changed(b, i, x);
     io::write_all(1, name);
     print::next_integer(x);
-    print::next_number(book::check(&b));
+    print::next_number(book::check(&c));
     print::end_line();
 }
 
 fn letter(name: u8, i: usize, x: i32) {
-    edited(&[name], i, x);
+    edited(&[name], K, i, x);
 }
 
 fn sizes() {
@@ -58,34 +64,21 @@ fn words() {
 }
 
 fn difference(x: i32) {
-    edited(b"difference", 7, x);
+    edited(b"difference", K, 7, x);
 }
 
 fn differences() {
-    edited(b"G_0[0]", 5, 1);
+    edited(b"G_0[0]", K, 5, 1);
     difference(0);
-    edited(b"last difference", 8, 0);
+    edited(b"last difference", K, 8, 0);
     difference(40000);
-}
-
-// A label, and the check's number for a book.
-fn checked(label: &[u8], b: &[i32]) {
-    io::write_all(1, label);
-    print::next_number(book::check(b));
-    print::end_line();
-}
-
-// K with two of its words changed.
-fn edited_twice(label: &[u8], i: usize, x: i32, j: usize, y: i32) {
-    let b = changed(changed(K, i, x), j, y);
-    checked(label, &b);
 }
 
 // Two conditions at once.
 fn pairs() {
-    edited_twice(b"G_0[0] 1 and g 32768", 5, 1, 10, 32768);
-    edited_twice(b"G_0[0] 1 and difference 0", 5, 1, 7, 0);
-    edited_twice(b"F 0 and G_0[0] 1", 4, 0, 5, 1);
+    edited(b"G_0[0] 1 and g", changed(K, 5, 1), 10, 32768);
+    edited(b"G_0[0] 1 and difference", changed(K, 5, 1), 7, 0);
+    edited(b"F 0 and G_0[0]", changed(K, 4, 0), 5, 1);
 }
 
 // The number of a book with the phase 0, 32767, 32767, x: its last two differences are d and e.
@@ -177,7 +170,7 @@ fn faint() {
 }
 
 fn checks() {
-    checked(b"K", &K);
+    unchanged();
     sizes();
     lengths();
     words();
