@@ -10,11 +10,12 @@ const SLOW: [i32; 11] = [2, 1, 0, 0, 4, 0, 16384, 16384, -16384, 16384, 16384];
 const LOUD: [i32; 11] = [2, 1, 0, 0, 1, 0, 16384, 16384, -16384, 16384, 32767];
 
 // Prints a letter and the samples that a voice plays of a recording.
-fn case(letter: &[u8], book: &[i32], samples: &[i16], top: u32, v: Voice, out: &mut [i16]) {
+fn case(letter: u8, book: &[i32], samples: &[i16], v: Voice, out: &mut [i16]) {
     let mut store = [0i32; 16];
-    levels::build(book, samples, top, &mut store);
+    let c = v.control;
+    levels::build(book, samples, c.top, &mut store);
     v.play(book, &store, samples.len(), out);
-    io::write_all(1, letter);
+    io::write_all(1, &[letter]);
     print::samples(out);
 }
 
@@ -22,33 +23,34 @@ fn opened(rate: f32, top: u32) -> Voice {
     Voice::open(Card { rate, top }).voice
 }
 
+// A ramp at a rate.
+fn ramp(letter: u8, rate: f32, top: u32, out: &mut [i16]) {
+    let samples = [0i16, 1000, 2000];
+    case(letter, &K, &samples, opened(rate, top), out);
+}
+
+// A wave after a jump from rate 1 to rate 2.
+fn jump(letter: u8, book: &[i32]) {
+    let samples = [0i16, 1000, 0, 1000];
+    let mut out = [0i16; 2];
+    let v = opened(1.0, 1).order(Order::Jump(2.0)).voice;
+    case(letter, book, &samples, v, &mut out);
+}
+
+// A recording of one level, too loud.
+fn loud(x: i16) {
+    let samples = [x; 3];
+    let mut out = [0i16; 1];
+    case(b'G', &LOUD, &samples, opened(1.0, 0), &mut out);
+}
+
 fn main() {
-    let ramp = [0i16, 1000, 2000];
-    let wave = [0i16, 1000, 0, 1000];
-    let high = [32767i16, 32767, 32767];
-    let low = [-32768i16, -32768, -32768];
     let mut four = [0i16; 4];
     let mut three = [0i16; 3];
-    let mut two = [0i16; 2];
-    let mut one = [0i16; 1];
-    case(b"A", &K, &ramp, 0, opened(1.0, 0), &mut four);
-    case(b"B", &K, &ramp, 1, opened(2.0, 1), &mut three);
-    case(
-        b"C",
-        &SLOW,
-        &wave,
-        1,
-        opened(1.0, 1).order(Order::Jump(2.0)).voice,
-        &mut two,
-    );
-    case(
-        b"D",
-        &K,
-        &wave,
-        1,
-        opened(1.0, 1).order(Order::Jump(2.0)).voice,
-        &mut two,
-    );
-    case(b"G", &LOUD, &high, 0, opened(1.0, 0), &mut one);
-    case(b"G", &LOUD, &low, 0, opened(1.0, 0), &mut one);
+    ramp(b'A', 1.0, 0, &mut four);
+    ramp(b'B', 2.0, 1, &mut three);
+    jump(b'C', &SLOW);
+    jump(b'D', &K);
+    loud(32767);
+    loud(-32768);
 }

@@ -14,139 +14,118 @@ fn changed(b: [i32; 11], i: usize, x: i32) -> [i32; 11] {
     b
 }
 
-// The check's number for K with two of its words changed.
-fn edited(label: &[u8], i: usize, x: i32, j: usize, y: i32) {
-    let b = changed(changed(K, i, x), j, y);
-    io::write_all(1, label);
-    print::next_number(book::check(&b));
+fn unchanged() {
+    io::write_all(1, b"K");
+    print::next_number(book::check(&K));
     print::end_line();
 }
 
+// A name, a value x, and the check's number for a book with word i changed to x.
+fn edited(name: &[u8], b: [i32; 11], i: usize, x: i32) {
+    let c = changed(b, i, x);
+    io::write_all(1, name);
+    print::next_integer(x);
+    print::next_number(book::check(&c));
+    print::end_line();
+}
+
+fn letter(name: u8, i: usize, x: i32) {
+    edited(&[name], K, i, x);
+}
+
 fn sizes() {
-    edited(b"K", 11, 0, 11, 0);
-    edited(b"N 1", 0, 1, 11, 0);
-    edited(b"N 3", 0, 3, 11, 0);
-    edited(b"N 26", 0, 26, 11, 0);
-    edited(b"N -2", 0, -2, 11, 0);
-    edited(b"M 0", 1, 0, 11, 0);
-    edited(b"M 3", 1, 3, 11, 0);
-    edited(b"M 256", 1, 256, 11, 0);
-    edited(b"A 41", 2, 41, 11, 0);
-    edited(b"B -1", 3, -1, 11, 0);
-    edited(b"F 0", 4, 0, 11, 0);
-    edited(b"F 256", 4, 256, 11, 0);
-    edited(b"F 257", 4, 257, 11, 0);
-    edited(b"N 4", 0, 4, 11, 0);
-    edited(b"M 2", 1, 2, 11, 0);
-    edited(b"A 1", 2, 1, 11, 0);
+    letter(b'N', 0, 1);
+    letter(b'N', 0, 3);
+    letter(b'N', 0, 26);
+    letter(b'N', 0, -2);
+    letter(b'M', 1, 0);
+    letter(b'M', 1, 3);
+    letter(b'M', 1, 256);
+    letter(b'A', 2, 41);
+    letter(b'B', 3, -1);
+    letter(b'F', 4, 0);
+    letter(b'F', 4, 256);
+    letter(b'F', 4, 257);
+}
+
+// Sizes of a longer book.
+fn lengths() {
+    letter(b'N', 0, 4);
+    letter(b'M', 1, 2);
+    letter(b'A', 2, 1);
 }
 
 fn words() {
-    edited(b"G 32768", 6, 32768, 11, 0);
-    edited(b"h -32769", 9, -32769, 11, 0);
-    edited(b"g 32768", 10, 32768, 11, 0);
-    edited(b"h 32767", 9, 32767, 11, 0);
-    edited(b"h -32768", 9, -32768, 11, 0);
-    edited(b"G_0[0] 1", 5, 1, 11, 0);
-    edited(b"difference 0", 7, 0, 11, 0);
-    edited(b"last difference 0", 8, 0, 11, 0);
-    edited(b"difference 40000", 7, 40000, 11, 0);
-    edited(b"G_0[0] 1 and g 32768", 5, 1, 10, 32768);
-    edited(b"G_0[0] 1 and difference 0", 5, 1, 7, 0);
-    edited(b"F 0 and G_0[0] 1", 4, 0, 5, 1);
+    letter(b'G', 6, 32768);
+    letter(b'h', 9, -32769);
+    letter(b'g', 10, 32768);
+    letter(b'h', 9, 32767);
+    letter(b'h', 9, -32768);
+}
+
+fn difference(x: i32) {
+    edited(b"difference", K, 7, x);
+}
+
+fn differences() {
+    edited(b"G_0[0]", K, 5, 1);
+    difference(0);
+    edited(b"last difference", K, 8, 0);
+    difference(40000);
+}
+
+// Two conditions at once.
+fn pairs() {
+    edited(b"G_0[0] 1 and g", changed(K, 5, 1), 10, 32768);
+    edited(b"G_0[0] 1 and difference", changed(K, 5, 1), 7, 0);
+    edited(b"F 0 and G_0[0]", changed(K, 4, 0), 5, 1);
+}
+
+// The number of a book with the phase 0, 32767, 32767, x: its last two differences are d and e.
+fn phase(x: i32, d: i32, e: i32) -> u32 {
+    let b = [
+        4,
+        1,
+        0,
+        0,
+        1,
+        0,
+        32767,
+        32767,
+        x,
+        32767,
+        0,
+        d,
+        e,
+        16384,
+        16384,
+    ];
+    book::check(&b)
+}
+
+// The number of a book with the level taps 16384, h and the decimation taps -16384, g.
+fn outer_taps(h: i32, g: i32) -> u32 {
+    let b = [2, 1, 1, 1, 1, 0, 16384, 16384, -16384, 16384, h, -16384, g];
+    book::check(&b)
 }
 
 // Sums of absolute values: a phase of 65536 and of 65538, and taps of 32768 and of 32770.
 fn sums() {
-    let four = [
-        4,
-        1,
-        0,
-        0,
-        1,
-        0,
-        32767,
-        32767,
-        2,
-        32767,
-        0,
-        -32765,
-        -2,
-        16384,
-        16384,
-    ];
-    let five = [
-        4,
-        1,
-        0,
-        0,
-        1,
-        0,
-        32767,
-        32767,
-        4,
-        32767,
-        0,
-        -32763,
-        -4,
-        16384,
-        16384,
-    ];
-    let wide = [
-        2,
-        1,
-        1,
-        1,
-        1,
-        0,
-        16384,
-        16384,
-        -16384,
-        16384,
-        -8192,
-        -16384,
-        8192,
-    ];
-    let wider = [
-        2,
-        1,
-        1,
-        1,
-        1,
-        0,
-        16384,
-        16384,
-        -16384,
-        16384,
-        -8193,
-        -16384,
-        8192,
-    ];
-    let widest = [
-        2,
-        1,
-        1,
-        1,
-        1,
-        0,
-        16384,
-        16384,
-        -16384,
-        16384,
-        -8192,
-        -16384,
-        8193,
-    ];
-    print::number(book::check(&four));
-    print::next_number(book::check(&five));
-    print::next_number(book::check(&wide));
-    print::next_number(book::check(&wider));
-    print::next_number(book::check(&widest));
+    print::number(phase(2, -32765, -2));
+    print::next_number(phase(4, -32763, -4));
+    print::next_number(outer_taps(-8192, 8192));
+    print::next_number(outer_taps(-8193, 8192));
+    print::next_number(outer_taps(-8192, 8193));
     print::end_line();
-    print::number(book::check(&K[..4]));
-    print::next_number(book::check(&K[..0]));
-    print::next_number(book::check(&K[..5]));
-    print::next_number(book::check(&K[..10]));
+}
+
+// The first words of K.
+fn starts() {
+    let k = K;
+    print::number(book::check(&k[..4]));
+    print::next_number(book::check(&k[..0]));
+    print::next_number(book::check(&k[..5]));
+    print::next_number(book::check(&k[..10]));
     print::end_line();
 }
 
@@ -161,36 +140,60 @@ fn build_in(book: &[i32], samples: &[i16], top: u32, store: &mut [i32], room: us
 fn built(book: &[i32], samples: &[i16], top: u32, room: usize) {
     let mut store = [9i32; 8];
     build_in(book, samples, top, &mut store, room);
-    let mut i = 0;
-    while i < 8 {
-        print::next_integer(store[i]);
-        i += 1;
-    }
-    print::end_line();
+    print::integers(&store);
+}
+
+// A store of a ramp.
+fn ramp(top: u32, room: usize) {
+    let samples = [0i16, 1000, 2000];
+    built(&K, &samples, top, room);
+}
+
+// A store of no samples, with K and with four words of it.
+fn no_samples() {
+    let samples = [0i16; 1];
+    let k = K;
+    built(&k, &samples[..0], 1, 8);
+    built(&k[..4], &samples[..0], 5, 0);
+}
+
+fn smooth() {
+    let samples = [-3i16, 5, -7, 9, -32768];
+    let book = [2, 1, 1, 0, 1, 0, 16384, 16384, -16384, 8192, 4096, 16384];
+    built(&book, &samples, 1, 8);
+}
+
+fn faint() {
+    let samples = [-32i16, 1, -33, 1, -96];
+    let book = [2, 1, 0, 0, 1, 0, 16384, 16384, -16384, 1, 16384];
+    built(&book, &samples, 1, 8);
+}
+
+fn checks() {
+    unchanged();
+    sizes();
+    lengths();
+    words();
+    differences();
+    pairs();
+    sums();
+    starts();
 }
 
 fn stores() {
-    let samples = [0i16, 1000, 2000];
-    let smooth = [2, 1, 1, 0, 1, 0, 16384, 16384, -16384, 8192, 4096, 16384];
-    let uneven = [-3i16, 5, -7, 9, -32768];
-    let faint = [2, 1, 0, 0, 1, 0, 16384, 16384, -16384, 1, 16384];
-    let quiet = [-32i16, 1, -33, 1, -96];
-    built(&K, &samples, 0, 8);
-    built(&K, &samples, 1, 8);
-    built(&K, &samples, 1, 5);
-    built(&K, &samples, 1, 4);
-    built(&K, &samples, 4, 8);
-    built(&K, &samples, 5, 8);
-    built(&K, &samples[..0], 1, 8);
-    built(&K[..4], &samples[..0], 5, 0);
-    built(&K, &samples, 5, 0);
-    built(&smooth, &uneven, 1, 8);
-    built(&faint, &quiet, 1, 8);
+    ramp(0, 8);
+    ramp(1, 8);
+    ramp(1, 5);
+    ramp(1, 4);
+    ramp(4, 8);
+    ramp(5, 8);
+    no_samples();
+    ramp(5, 0);
+    smooth();
+    faint();
 }
 
 fn main() {
-    sizes();
-    words();
-    sums();
+    checks();
     stores();
 }

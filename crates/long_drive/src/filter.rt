@@ -1,5 +1,7 @@
+pub type Book = [i32; 1593];
+
 // A book of N = 12, M = 64, A = 40, B = 10 and F = 64: a windowed sinc, and half-band taps.
-pub const BOOK: [i32; 1593] = [
+pub const BOOK: Book = [
     12,
     64,
     40,

@@ -1,11 +1,15 @@
-// A long drive: one million outputs of a hum through a book of N = 12, M = 64, B = 10, with jumps, glides and seeks between the blocks.
-// It prints a check number of all samples, and the last ones. It is also what the player's speed is read from.
+// A long drive: 250 blocks of 4000 outputs of a hum, with a book of N = 12, M = 64, A = 40, B = 10, F = 64 and the levels 0 to 2. Before a
+// block it jumps, glides or seeks, each once in eight blocks. It prints a check number of the million samples, and the last two. `stdout` has
+// what rust/renderer, a renderer of other authorship, computes from the same drive.
 ghost use Prim.Native.Nat.{_≤_};
 use control::Card;
 use control::Order;
+use filter::Book;
 use player::Voice;
 
 mod filter; // the book
+
+type Store = [i32; 65536];
 
 // Sample i of the hum: two ramps of different lengths, one less the other.
 fn hum_at(i: usize) -> i16 {
@@ -59,14 +63,18 @@ fn checked(c: u64, block: &[i16]) -> u64 {
     sum
 }
 
-// Plays 250 blocks, each after what is done before it, and hands back the check number of all samples.
-fn driven(voice: Voice, store: &[i32], block: &mut [i16]) -> u64 {
+// Block n, after what is done before it.
+fn played(v: Voice, n: u32, book: &[i32], store: &[i32], block: &mut [i16]) -> Voice {
+    steered(v, n).play(book, store, 32768, block).voice
+}
+
+// Plays 250 blocks, and hands back the check number of all samples.
+fn driven(voice: Voice, book: &[i32], store: &[i32], block: &mut [i16]) -> u64 {
     let mut v = voice;
     let mut check = 0;
     let mut n = 0u32;
     while n < 250 {
-        v = steered(v, n);
-        v = v.play(&filter::BOOK, store, 32768, block).voice;
+        v = played(v, n, book, store, block);
         check = checked(check, block);
         n += 1;
     }
@@ -81,13 +89,23 @@ fn last_two(block: &[i16]) {
     }
 }
 
-fn main() {
+// Builds the levels 0 to 2 of the hum.
+fn built(book: &Book, store: &mut Store) {
     let mut samples = [0i16; 32768];
-    let mut store = [0i32; 65536];
-    let mut block = [0i16; 4000];
     hum(&mut samples);
-    levels::build(&filter::BOOK, &samples, 2, &mut store);
+    levels::build(book, &samples, 2, store);
+}
+
+fn drive(book: &Book, store: &Store) {
+    let mut block = [0i16; 4000];
     let v = Voice::open(Card { rate: 1.5, top: 2 }).voice;
-    io::print_decimal(1, driven(v, &store, &mut block));
+    io::print_decimal(1, driven(v, book, store, &mut block));
     last_two(&block);
+}
+
+fn main() {
+    let book = filter::BOOK;
+    let mut store = [0i32; 65536];
+    built(&book, &mut store);
+    drive(&book, &store);
 }

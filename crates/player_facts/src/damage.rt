@@ -93,31 +93,24 @@ pub fn with(v: Voice, field: u32, x: u64) -> Voice {
     Voice { control, history }
 }
 
+fn same_fade(f: Fade, g: Fade) -> bool {
+    f.from == g.from && f.to == g.to && f.step == g.step
+}
+
+fn same_glide(r: Glide, s: Glide) -> bool {
+    r.start == s.start && r.target == s.target && r.count == s.count && r.done == s.done
+}
+
 fn same_control(a: Control, b: Control) -> bool {
     let f = a.fade;
     let g = b.fade;
     let r = a.glide;
     let s = b.glide;
-    if a.top != b.top || a.rate != b.rate || a.position != b.position {
-        return false;
-    }
-    if f.from != g.from || f.to != g.to || f.step != g.step {
-        return false;
-    }
-    if r.start != s.start || r.target != s.target {
-        return false;
-    }
-    r.count == s.count && r.done == s.done
+    let numbers = a.top == b.top && a.rate == b.rate && a.position == b.position;
+    numbers && same_fade(f, g) && same_glide(r, s)
 }
 
-pub fn same(a: Voice, b: Voice) -> bool {
-    let c = a.control;
-    let d = b.control;
-    let g = a.history;
-    let h = b.history;
-    if !same_control(c, d) {
-        return false;
-    }
+fn same_history(g: [i32; 81], h: [i32; 81]) -> bool {
     let mut k = 0;
     while k < 81 {
         if g[k] != h[k] {
@@ -126,4 +119,12 @@ pub fn same(a: Voice, b: Voice) -> bool {
         k += 1;
     }
     true
+}
+
+pub fn same(a: Voice, b: Voice) -> bool {
+    let c = a.control;
+    let d = b.control;
+    let g = a.history;
+    let h = b.history;
+    same_control(c, d) && same_history(g, h)
 }

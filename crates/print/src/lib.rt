@@ -29,15 +29,30 @@ pub fn samples(block: &[i16]) {
     end_line();
 }
 
+// A blank before each of a slice of words, and the end of the line.
+pub fn integers(words: &[i32]) {
+    let mut i = 0;
+    while i < words.len() {
+        next_integer(words[i]);
+        i += 1;
+    }
+    end_line();
+}
+
 // A refusal number.
 pub fn number(n: u32) {
     io::print_decimal(1, n as u64);
 }
 
+// A blank, and then the number.
+pub fn next_decimal(x: u64) {
+    io::write_all(1, b" ");
+    io::print_decimal(1, x);
+}
+
 // A blank, and then the refusal number.
 pub fn next_number(n: u32) {
-    io::write_all(1, b" ");
-    number(n);
+    next_decimal(n as u64);
 }
 
 pub fn end_line() {

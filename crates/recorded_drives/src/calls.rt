@@ -1,4 +1,4 @@
-// A drive's calls as rows of numbers: what is called, then the bits of a rate, a position or a count of outputs, then a glide's count.
+// A drive's calls as numbers: what is called, plus the bits of a rate, a position or a count of outputs; a glide's count is times COUNT.
 // Each is made, and printed with its answer.
 use crate::lines;
 use crate::rates::rate_of;
@@ -9,11 +9,13 @@ use player::Voice;
 
 pub const JUMP: u64 = 0;
 
-pub const GLIDE: u64 = 1;
+pub const GLIDE: u64 = 1 << 61;
 
-pub const SEEK: u64 = 2;
+pub const SEEK: u64 = 2 << 61;
 
-pub const PLAY: u64 = 3;
+pub const PLAY: u64 = 3 << 61;
+
+pub const COUNT: u64 = 1 << 32;
 
 // A number's low 32 bits.
 fn low(x: u64) -> u32 {
@@ -69,27 +71,30 @@ fn played(v: Voice, book: &[i32], store: &[i32], samples: usize, count: usize) -
     filled(v, book, store, samples, &mut room[..count])
 }
 
-// The call of a row.
-fn called(v: Voice, row: [u64; 3], book: &[i32], store: &[i32], samples: usize) -> Voice {
-    if row[0] == JUMP {
-        return jumped(v, low(row[1]));
+// A jump, a glide or a seek.
+fn steered(v: Voice, call: u64) -> Voice {
+    if call < GLIDE {
+        return jumped(v, low(call));
     }
-    if row[0] == GLIDE {
-        return gliding(v, low(row[1]), low(row[2]));
+    if call < SEEK {
+        return gliding(v, low(call), low((call - GLIDE) / COUNT));
     }
-    if row[0] == SEEK {
-        return sought(v, row[1]);
+    sought(v, call - SEEK)
+}
+
+fn called(v: Voice, call: u64, book: &[i32], store: &[i32], samples: usize) -> Voice {
+    if call < PLAY {
+        return steered(v, call);
     }
-    played(v, book, store, samples, row[1] as usize)
+    played(v, book, store, samples, (call - PLAY) as usize)
 }
 
 // All calls, each from the voice that the last one handed back.
-pub fn all(voice: Voice, rows: &[[u64; 3]], book: &[i32], store: &[i32], samples: usize) -> Voice {
+pub fn all(voice: Voice, calls: &[u64], book: &[i32], store: &[i32], samples: usize) -> Voice {
     let mut v = voice;
     let mut k = 0;
-    while k < rows.len() {
-        let row = rows[k];
-        v = called(v, row, book, store, samples);
+    while k < calls.len() {
+        v = called(v, calls[k], book, store, samples);
         k += 1;
     }
     v

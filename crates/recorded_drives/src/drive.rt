@@ -3,6 +3,14 @@
 use crate::calls;
 use crate::lines;
 
+// Prints what is given.
+fn given(seed: u64, book: &[i32], samples: &[i16], top: u32) {
+    lines::number(b"drive", seed);
+    lines::words(b"book", book);
+    lines::samples(b"samples", samples);
+    lines::number(b"top", top as u64);
+}
+
 // Builds the store.
 fn built(book: &[i32], samples: &[i16], top: u32, store: &mut [i32]) {
     lines::number(b"build", store.len() as u64);
@@ -12,13 +20,10 @@ fn built(book: &[i32], samples: &[i16], top: u32, store: &mut [i32]) {
 }
 
 // Prints a drive. Its store has 120 words, enough for levels 0..3 of 64 samples; they are 77 before they are built.
-pub fn text(seed: u64, book: &[i32], samples: &[i16], top: u32, rate: u32, rows: &[[u64; 3]]) {
+pub fn text(seed: u64, book: &[i32], samples: &[i16], top: u32, rate: u32, list: &[u64]) {
     let mut store = [77i32; 120];
-    lines::number(b"drive", seed);
-    lines::words(b"book", book);
-    lines::samples(b"samples", samples);
-    lines::number(b"top", top as u64);
+    given(seed, book, samples, top);
     built(book, samples, top, &mut store);
     let v = calls::opened(rate, top);
-    lines::voice(calls::all(v, rows, book, &store, samples.len()));
+    lines::voice(calls::all(v, list, book, &store, samples.len()));
 }

@@ -1,4 +1,5 @@
 // Drive 1067, made by rust/drives.
+use crate::calls::COUNT;
 use crate::calls::GLIDE;
 use crate::calls::JUMP;
 use crate::calls::PLAY;
@@ -35,19 +36,19 @@ const BOOK: [i32; 25] = [
 
 const SAMPLES: [i16; 11] = [-1, -1, -1, -1, 1, 0, 0, -1, -1, 0, 0];
 
-const CALLS: [[u64; 3]; 12] = [
-    [JUMP, 0x3eaff256, 0],
-    [PLAY, 28, 0],
-    [GLIDE, 0x407f5fd3, 65535],
-    [JUMP, 0x417fffff, 0],
-    [JUMP, 0x417fffff, 0],
-    [SEEK, 1421935562, 0],
-    [PLAY, 2, 0],
-    [GLIDE, 0x3fffffff, 16],
-    [GLIDE, 0x417fffff, 4],
-    [GLIDE, 0x3dcc7770, 2],
-    [SEEK, 1081463340, 0],
-    [PLAY, 2, 0],
+const CALLS: [u64; 12] = [
+    JUMP + 0x3eaff256,
+    PLAY + 28,
+    GLIDE + 65535 * COUNT + 0x407f5fd3,
+    JUMP + 0x417fffff,
+    JUMP + 0x417fffff,
+    SEEK + 1421935562,
+    PLAY + 2,
+    GLIDE + 16 * COUNT + 0x3fffffff,
+    GLIDE + 4 * COUNT + 0x417fffff,
+    GLIDE + 2 * COUNT + 0x3dcc7770,
+    SEEK + 1081463340,
+    PLAY + 2,
 ];
 
 pub fn text() {

@@ -1,4 +1,5 @@
 // Drive 1853, made by rust/drives.
+use crate::calls::COUNT;
 use crate::calls::GLIDE;
 use crate::calls::JUMP;
 use crate::calls::PLAY;
@@ -52,19 +53,19 @@ const BOOK: [i32; 42] = [
 
 const SAMPLES: [i16; 6] = [-183, 112, 127, 199, -233, -157];
 
-const CALLS: [[u64; 3]; 12] = [
-    [PLAY, 23, 0],
-    [PLAY, 2, 0],
-    [PLAY, 26, 0],
-    [GLIDE, 0x7fc00000, 1],
-    [GLIDE, 0x40ffffff, 9],
-    [JUMP, 0x7f7fffff, 0],
-    [PLAY, 24, 0],
-    [SEEK, 1152921504606846977, 0],
-    [SEEK, 1056280364, 0],
-    [PLAY, 2, 0],
-    [SEEK, 663316792, 0],
-    [PLAY, 2, 0],
+const CALLS: [u64; 12] = [
+    PLAY + 23,
+    PLAY + 2,
+    PLAY + 26,
+    GLIDE + 1 * COUNT + 0x7fc00000,
+    GLIDE + 9 * COUNT + 0x40ffffff,
+    JUMP + 0x7f7fffff,
+    PLAY + 24,
+    SEEK + 1152921504606846977,
+    SEEK + 1056280364,
+    PLAY + 2,
+    SEEK + 663316792,
+    PLAY + 2,
 ];
 
 pub fn text() {

@@ -1,4 +1,5 @@
 // Drive 2325, made by rust/drives.
+use crate::calls::COUNT;
 use crate::calls::GLIDE;
 use crate::calls::JUMP;
 use crate::calls::PLAY;
@@ -51,19 +52,19 @@ const SAMPLES: [i16; 24] = [
     114,
 ];
 
-const CALLS: [[u64; 3]; 12] = [
-    [PLAY, 40, 0],
-    [GLIDE, 0x416fcba6, 1],
-    [PLAY, 4, 0],
-    [GLIDE, 0x417fffff, 1],
-    [SEEK, 2861601781, 0],
-    [PLAY, 3, 0],
-    [SEEK, 3772384655, 0],
-    [PLAY, 0, 0],
-    [SEEK, 1073741824, 0],
-    [JUMP, 0x41038d5a, 0],
-    [GLIDE, 0x4060b4aa, 2],
-    [PLAY, 17, 0],
+const CALLS: [u64; 12] = [
+    PLAY + 40,
+    GLIDE + 1 * COUNT + 0x416fcba6,
+    PLAY + 4,
+    GLIDE + 1 * COUNT + 0x417fffff,
+    SEEK + 2861601781,
+    PLAY + 3,
+    SEEK + 3772384655,
+    PLAY + 0,
+    SEEK + 1073741824,
+    JUMP + 0x41038d5a,
+    GLIDE + 2 * COUNT + 0x4060b4aa,
+    PLAY + 17,
 ];
 
 pub fn text() {

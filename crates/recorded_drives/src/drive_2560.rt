@@ -39,19 +39,19 @@ const SAMPLES: [i16; 12] = [
     -13241,
 ];
 
-const CALLS: [[u64; 3]; 12] = [
-    [SEEK, 2157972551, 0],
-    [JUMP, 0x3db8faab, 0],
-    [PLAY, 35, 0],
-    [PLAY, 20, 0],
-    [SEEK, 1264472411, 0],
-    [PLAY, 23, 0],
-    [PLAY, 32, 0],
-    [PLAY, 6, 0],
-    [PLAY, 28, 0],
-    [PLAY, 8, 0],
-    [PLAY, 7, 0],
-    [SEEK, 1363528698, 0],
+const CALLS: [u64; 12] = [
+    SEEK + 2157972551,
+    JUMP + 0x3db8faab,
+    PLAY + 35,
+    PLAY + 20,
+    SEEK + 1264472411,
+    PLAY + 23,
+    PLAY + 32,
+    PLAY + 6,
+    PLAY + 28,
+    PLAY + 8,
+    PLAY + 7,
+    SEEK + 1363528698,
 ];
 
 pub fn text() {

@@ -1,4 +1,5 @@
 // Drive 562, made by rust/drives.
+use crate::calls::COUNT;
 use crate::calls::GLIDE;
 use crate::calls::JUMP;
 use crate::calls::PLAY;
@@ -70,19 +71,19 @@ const SAMPLES: [i16; 31] = [
     -16983,
 ];
 
-const CALLS: [[u64; 3]; 12] = [
-    [PLAY, 39, 0],
-    [PLAY, 0, 0],
-    [GLIDE, 0x417fffff, 16],
-    [JUMP, 0x3f837b4a, 0],
-    [PLAY, 27, 0],
-    [JUMP, 0x40ffffff, 0],
-    [SEEK, 3423373633, 0],
-    [PLAY, 6, 0],
-    [GLIDE, 0x3d875ce1, 8],
-    [SEEK, 2642294436, 0],
-    [PLAY, 7, 0],
-    [SEEK, 3565073666, 0],
+const CALLS: [u64; 12] = [
+    PLAY + 39,
+    PLAY + 0,
+    GLIDE + 16 * COUNT + 0x417fffff,
+    JUMP + 0x3f837b4a,
+    PLAY + 27,
+    JUMP + 0x40ffffff,
+    SEEK + 3423373633,
+    PLAY + 6,
+    GLIDE + 8 * COUNT + 0x3d875ce1,
+    SEEK + 2642294436,
+    PLAY + 7,
+    SEEK + 3565073666,
 ];
 
 pub fn text() {

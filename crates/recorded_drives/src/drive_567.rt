@@ -1,4 +1,5 @@
 // Drive 567, made by rust/drives.
+use crate::calls::COUNT;
 use crate::calls::GLIDE;
 use crate::calls::JUMP;
 use crate::calls::PLAY;
@@ -27,19 +28,19 @@ const BOOK: [i32; 17] = [
 
 const SAMPLES: [i16; 7] = [28, 118, 50, 64, 180, 173, 131];
 
-const CALLS: [[u64; 3]; 12] = [
-    [PLAY, 11, 0],
-    [GLIDE, 0x3e2b9ac3, 165],
-    [JUMP, 0x7fed8b22, 0],
-    [PLAY, 18, 0],
-    [PLAY, 19, 0],
-    [SEEK, 268435456, 0],
-    [PLAY, 11, 0],
-    [PLAY, 6, 0],
-    [GLIDE, 0x3fd5d37c, 3],
-    [PLAY, 27, 0],
-    [SEEK, 3221225471, 0],
-    [GLIDE, 0x3e17139d, 0],
+const CALLS: [u64; 12] = [
+    PLAY + 11,
+    GLIDE + 165 * COUNT + 0x3e2b9ac3,
+    JUMP + 0x7fed8b22,
+    PLAY + 18,
+    PLAY + 19,
+    SEEK + 268435456,
+    PLAY + 11,
+    PLAY + 6,
+    GLIDE + 3 * COUNT + 0x3fd5d37c,
+    PLAY + 27,
+    SEEK + 3221225471,
+    GLIDE + 0 * COUNT + 0x3e17139d,
 ];
 
 pub fn text() {

@@ -1,4 +1,5 @@
 // Drive 757, made by rust/drives.
+use crate::calls::COUNT;
 use crate::calls::GLIDE;
 use crate::calls::JUMP;
 use crate::calls::PLAY;
@@ -70,19 +71,19 @@ const SAMPLES: [i16; 44] = [
     -1268,
 ];
 
-const CALLS: [[u64; 3]; 12] = [
-    [PLAY, 8, 0],
-    [GLIDE, 0x3e22e3bf, 4194304],
-    [SEEK, 268435455, 0],
-    [PLAY, 4, 0],
-    [JUMP, 0x80000000, 0],
-    [PLAY, 24, 0],
-    [SEEK, 1152921497589256604, 0],
-    [JUMP, 0x3f2d3a31, 0],
-    [PLAY, 16, 0],
-    [JUMP, 0x3f54b0ba, 0],
-    [PLAY, 19, 0],
-    [SEEK, 396338235, 0],
+const CALLS: [u64; 12] = [
+    PLAY + 8,
+    GLIDE + 4194304 * COUNT + 0x3e22e3bf,
+    SEEK + 268435455,
+    PLAY + 4,
+    JUMP + 0x80000000,
+    PLAY + 24,
+    SEEK + 1152921497589256604,
+    JUMP + 0x3f2d3a31,
+    PLAY + 16,
+    JUMP + 0x3f54b0ba,
+    PLAY + 19,
+    SEEK + 396338235,
 ];
 
 pub fn text() {

@@ -1,4 +1,5 @@
 // Drive 988, made by rust/drives.
+use crate::calls::COUNT;
 use crate::calls::GLIDE;
 use crate::calls::JUMP;
 use crate::calls::PLAY;
@@ -76,19 +77,19 @@ const SAMPLES: [i16; 39] = [
     -1158,
 ];
 
-const CALLS: [[u64; 3]; 12] = [
-    [GLIDE, 0x3fb4bd0a, 18],
-    [GLIDE, 0x3f82fcf3, 34],
-    [JUMP, 0x3db34899, 0],
-    [PLAY, 15, 0],
-    [PLAY, 3, 0],
-    [PLAY, 32, 0],
-    [JUMP, 0x3f800000, 0],
-    [PLAY, 34, 0],
-    [GLIDE, 0x4078d94a, 38],
-    [PLAY, 19, 0],
-    [PLAY, 16, 0],
-    [SEEK, 5040719126, 0],
+const CALLS: [u64; 12] = [
+    GLIDE + 18 * COUNT + 0x3fb4bd0a,
+    GLIDE + 34 * COUNT + 0x3f82fcf3,
+    JUMP + 0x3db34899,
+    PLAY + 15,
+    PLAY + 3,
+    PLAY + 32,
+    JUMP + 0x3f800000,
+    PLAY + 34,
+    GLIDE + 38 * COUNT + 0x4078d94a,
+    PLAY + 19,
+    PLAY + 16,
+    SEEK + 5040719126,
 ];
 
 pub fn text() {

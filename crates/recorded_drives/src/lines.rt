@@ -1,11 +1,11 @@
 // The lines of a drive's text: a name, and then numbers, each after a blank.
+use control::Control;
 use player::Voice;
 
 // A name and a number.
 pub fn number(name: &[u8], x: u64) {
     io::write_all(1, name);
-    io::write_all(1, b" ");
-    io::print_decimal(1, x);
+    print::next_decimal(x);
     print::end_line();
 }
 
@@ -31,20 +31,10 @@ pub fn samples(name: &[u8], block: &[i16]) {
     print::samples(block);
 }
 
-// The rest of a line of words.
-fn integers(block: &[i32]) {
-    let mut i = 0;
-    while i < block.len() {
-        print::next_integer(block[i]);
-        i += 1;
-    }
-    print::end_line();
-}
-
 // A name and words.
 pub fn words(name: &[u8], block: &[i32]) {
     io::write_all(1, name);
-    integers(block);
+    print::integers(block);
 }
 
 // A field of 32 bits, as the signed word that has its bits.
@@ -63,13 +53,10 @@ fn next_pair(x: u64) {
     next_word((x / 4294967296) as u32);
 }
 
-// A voice as 95 words: T, the fade's old and new level and i, R, R0, R1, c, j and P, then the 81 points.
-pub fn voice(v: Voice) {
-    let c = v.control;
+// T, the fade's old and new level and i, R, R0, R1, c, j and P.
+fn control(c: Control) {
     let fade = c.fade;
     let glide = c.glide;
-    let history = v.history;
-    io::write_all(1, b"voice");
     next_word(c.top);
     next_word(fade.from);
     next_word(fade.to);
@@ -80,5 +67,13 @@ pub fn voice(v: Voice) {
     next_word(glide.count);
     next_word(glide.done);
     next_pair(c.position);
-    integers(&history);
+}
+
+// A voice as 95 words: 14 of its control, then the 81 points.
+pub fn voice(v: Voice) {
+    let c = v.control;
+    let history = v.history;
+    io::write_all(1, b"voice");
+    control(c);
+    print::integers(&history);
 }

@@ -39,31 +39,39 @@ fn constant<T: Display>(name: &str, kind: &str, words: &[T]) -> String {
     )
 }
 
-/// The name of a call, as the program's module `calls` has it.
-fn name(call: Call) -> &'static str {
+/// The names of the program's module `calls` that a call is written with.
+fn names(call: Call) -> &'static [&'static str] {
     match call {
-        Call::Jump(_) => "JUMP",
-        Call::Glide(..) => "GLIDE",
-        Call::Seek(_) => "SEEK",
-        Call::Play(_) => "PLAY",
+        Call::Jump(_) => &["JUMP"],
+        Call::Glide(..) => &["GLIDE", "COUNT"],
+        Call::Seek(_) => &["SEEK"],
+        Call::Play(_) => &["PLAY"],
     }
 }
 
-/// A call as a row of three numbers.
-fn row(call: Call) -> String {
-    let name = name(call);
+/// Below this are the numbers that are added to a call's name.
+const CALL: u64 = 1 << 61;
+
+/// A call as a number.
+fn number(call: Call) -> String {
     match call {
-        Call::Jump(rate) => format!("[{name}, 0x{:08x}, 0]", rate.to_bits()),
-        Call::Glide(rate, count) => format!("[{name}, 0x{:08x}, {count}]", rate.to_bits()),
-        Call::Seek(position) => format!("[{name}, {position}, 0]"),
-        Call::Play(count) => format!("[{name}, {count}, 0]"),
+        Call::Jump(rate) => format!("JUMP + 0x{:08x}", rate.to_bits()),
+        Call::Glide(rate, count) => {
+            assert!(u64::from(count) < CALL >> 32);
+            format!("GLIDE + {count} * COUNT + 0x{:08x}", rate.to_bits())
+        }
+        Call::Seek(position) => {
+            assert!(position < CALL);
+            format!("SEEK + {position}")
+        }
+        Call::Play(count) => format!("PLAY + {count}"),
     }
 }
 
 /// The module of a drive.
 pub fn module(drive: &SmallDrive) -> String {
     let calls = || drive.calls.iter().map(|answered| answered.call);
-    let mut names: Vec<&str> = calls().map(name).collect();
+    let mut names: Vec<&str> = calls().flat_map(names).copied().collect();
     names.sort_unstable();
     names.dedup();
     let mut text = format!("// Drive {}, made by rust/drives.\n", drive.seed);
@@ -73,8 +81,8 @@ pub fn module(drive: &SmallDrive) -> String {
     text += "use crate::drive;\n\n";
     text += &constant("BOOK", "i32", &drive.setting.book);
     text += &constant("SAMPLES", "i16", &drive.setting.samples);
-    let rows: Vec<String> = calls().map(row).collect();
-    text += &constant("CALLS", "[u64; 3]", &rows);
+    let numbers: Vec<String> = calls().map(number).collect();
+    text += &constant("CALLS", "u64", &numbers);
     let (seed, top, rate) = (drive.seed, drive.setting.top, drive.rate.to_bits());
     let given = format!("{seed}, &BOOK, &SAMPLES, {top}, 0x{rate:08x}, &CALLS");
     text + &format!("pub fn text() {{\n    drive::text({given});\n}}\n")

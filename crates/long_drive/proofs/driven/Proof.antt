@@ -7,22 +7,16 @@ use Rattle.long_drive.proofs.driven.Statement.{statement}
 use Rattle.long_drive.proofs.driven.Tie as tie
 
 abbrev Inv-loop : tie.InvT-loop
-Inv-loop store block₀ v₀ check₀ n₀ t7 block v check n = (n ≤ 250) × (length block ≡ length block₀)
+Inv-loop book store block₀ v₀ check₀ n₀ block v check n = (n ≤ 250) × (length block ≡ length block₀)
 
 abbrev μ-loop : tie.MeasureT-loop
-μ-loop store block₀ v₀ check₀ n₀ t7 block v check n = 250 - n
+μ-loop book store block₀ v₀ check₀ n₀ block v check n = 250 - n
 
 loop-holds : tie.Need-loop-holds Inv-loop μ-loop
 loop-holds c = search needs
 
-steered-requires : tie.Need-steered-requires Inv-loop μ-loop
-steered-requires c κs = search needs
-
-slice-aggregate-play : tie.Need-slice-aggregate-play Inv-loop μ-loop
-slice-aggregate-play c = search needs
-
-play-requires : tie.Need-play-requires Inv-loop μ-loop
-play-requires c κs = search needs
+played-requires : tie.Need-played-requires Inv-loop μ-loop
+played-requires c κs = search needs
 
 checked-requires : tie.Need-checked-requires Inv-loop μ-loop
 checked-requires c κs = search needs
@@ -49,9 +43,7 @@ driven-spec =
     Inv-loop
     μ-loop
     loop-holds
-    steered-requires
-    slice-aggregate-play
-    play-requires
+    played-requires
     checked-requires
     add-n
     loop-less

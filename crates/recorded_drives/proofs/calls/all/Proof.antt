@@ -1,4 +1,4 @@
--- `recorded_drives::calls::all` is safe: each row that it reads lies in the slice. Assumes nothing.
+-- `recorded_drives::calls::all` is safe: each call that it reads lies in the slice. Assumes nothing.
 use borrow.Author.Needs.{needs}
 use Prim.Native.Nat.{_≤_, _-_}
 use lib.ListN.{length}
@@ -6,19 +6,19 @@ use Rattle.recorded_drives.proofs.calls.all.Statement.{statement}
 use Rattle.recorded_drives.proofs.calls.all.Tie as tie
 
 abbrev Inv-loop : tie.InvT-loop
-Inv-loop rows book store samples v₀ k₀ v k = k ≤ length rows
+Inv-loop calls book store samples v₀ k₀ v k = k ≤ length calls
 
 abbrev μ-loop : tie.MeasureT-loop
-μ-loop rows book store samples v₀ k₀ v k = length rows - k
+μ-loop calls book store samples v₀ k₀ v k = length calls - k
 
 loop-holds : tie.Need-loop-holds Inv-loop μ-loop
 loop-holds c = search needs
 
-mul-row : tie.Need-mul-row Inv-loop μ-loop
-mul-row c = search needs
+mul-called : tie.Need-mul-called Inv-loop μ-loop
+mul-called c = search needs
 
-shared-slice-copy-out-row : tie.Need-shared-slice-copy-out-row Inv-loop μ-loop
-shared-slice-copy-out-row c = search needs
+shared-slice-read-called : tie.Need-shared-slice-read-called Inv-loop μ-loop
+shared-slice-read-called c = search needs
 
 called-requires : tie.Need-called-requires Inv-loop μ-loop
 called-requires c κs = search needs
@@ -42,8 +42,8 @@ all-spec =
     Inv-loop
     μ-loop
     loop-holds
-    mul-row
-    shared-slice-copy-out-row
+    mul-called
+    shared-slice-read-called
     called-requires
     add-k
     loop-less

@@ -1,15 +1,15 @@
--- `recorded_drives::lines::integers` is safe: each word that it prints lies in the slice. Assumes nothing.
+-- `print::integers` is safe: each word that it prints lies in the slice. Assumes nothing.
 use borrow.Author.Needs.{needs}
 use Prim.Native.Nat.{_≤_, _-_}
 use lib.ListN.{length}
-use Rattle.recorded_drives.proofs.lines.integers.Statement.{statement}
-use Rattle.recorded_drives.proofs.lines.integers.Tie as tie
+use Rattle.print.proofs.integers.Statement.{statement}
+use Rattle.print.proofs.integers.Tie as tie
 
 abbrev Inv-loop : tie.InvT-loop
-Inv-loop block i₀ i = i ≤ length block
+Inv-loop words i₀ i = i ≤ length words
 
 abbrev μ-loop : tie.MeasureT-loop
-μ-loop block i₀ i = length block - i
+μ-loop words i₀ i = length words - i
 
 loop-holds : tie.Need-loop-holds Inv-loop μ-loop
 loop-holds c = search needs
