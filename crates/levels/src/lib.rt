@@ -6,25 +6,25 @@ ghost use Rattle.levels.specs.Build.{built, storeNumber, buildAnswer};
 pub mod sizes; // lengths of levels and stores
 mod store; // all levels, one after another
 
-// 0 where a store of `words` words can hold levels 0..top of `samples` samples by this book, else the first of the numbers 1 to 9
+// 0 where a store of `words` words can hold levels 0..top of `recorded` samples by this book, else the first of the numbers 1 to 9
 // whose condition holds.
-pub fn store_number(book: &[i32], samples: usize, top: u32, words: usize) -> u32
-    ensures { λ r. ⌜ r ≡ storeNumber (now (book .entry)) samples top words ⌝ }
+pub fn store_number(book: &[i32], recorded: usize, top: u32, words: usize) -> u32
+    ensures { λ r. ⌜ r ≡ storeNumber (now (book .entry)) recorded top words ⌝ }
 {
     let number = book::check(book);
     if number != 0 {
         return number;
     }
-    if samples < 1 {
+    if recorded < 1 {
         return 8;
     }
-    if 1048576 < samples {
+    if 1048576 < recorded {
         return 8;
     }
     if 4 < top {
         return 8;
     }
-    if words < sizes::store_length(samples, top) {
+    if words < sizes::store_length(recorded, top) {
         return 9;
     }
     0

@@ -7,12 +7,12 @@ ghost use Rattle.levels.specs.Sizes.{levelStart, storeLength};
 use octave::half_length;
 
 // The words of levels 0..top.
-pub fn store_length(samples: usize, top: u32) -> usize
-    requires { ⌜ (samples ≤ 1048576) × (top ≤ 4) ⌝ }
-    ensures { λ r. ⌜ r ≡ storeLength samples top ⌝ }
+pub fn store_length(recorded: usize, top: u32) -> usize
+    requires { ⌜ (recorded ≤ 1048576) × (top ≤ 4) ⌝ }
+    ensures { λ r. ⌜ r ≡ storeLength recorded top ⌝ }
 {
-    let mut words = samples;
-    let mut length = samples;
+    let mut words = recorded;
+    let mut length = recorded;
     let mut j = 0;
     while j < top {
         length = half_length(length);
@@ -23,12 +23,12 @@ pub fn store_length(samples: usize, top: u32) -> usize
 }
 
 // Where levels 0..4 begin, and in the last place where level 4 ends.
-pub fn level_starts(samples: usize) -> [usize; 6]
-    requires { ⌜ samples ≤ 1048576 ⌝ }
-    ensures { λ r. ⌜ ((j : ℕ) → j < 6 → getD r j 0 ≡ levelStart samples j) ⌝ }
+pub fn level_starts(recorded: usize) -> [usize; 6]
+    requires { ⌜ recorded ≤ 1048576 ⌝ }
+    ensures { λ r. ⌜ ((j : ℕ) → j < 6 → getD r j 0 ≡ levelStart recorded j) ⌝ }
 {
     let mut starts = [0usize; 6];
-    let mut length = samples;
+    let mut length = recorded;
     let mut j = 0;
     while j < 5 {
         starts[j + 1] = starts[j] + length;

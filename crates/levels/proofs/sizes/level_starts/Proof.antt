@@ -32,7 +32,7 @@ placed S starts j v h below e i l = go (ℕ-discrete i (j + 1))
 
 loop-holds : tie.Need-loop-holds Inv-loop μ-loop
 loop-holds c =
-    let S = c .args .samples in (
+    let S = c .args .recorded in (
       omega arith,
       refl,
       sym (levelLength-zero S),
@@ -47,7 +47,7 @@ array-read-starts : tie.Need-array-read-starts Inv-loop μ-loop
 array-read-starts c = search needs
 
 add-starts : tie.Need-add-starts Inv-loop μ-loop
-add-starts c = omega (arith, c .before .loop .inv .2, levelLength-≤ (c .before .before .args .samples) (c .before .loop .j))
+add-starts c = omega (arith, c .before .loop .inv .2, levelLength-≤ (c .before .before .args .recorded) (c .before .loop .j))
 
 add-starts-2 : tie.Need-add-starts-2 Inv-loop μ-loop
 add-starts-2 c = search needs
@@ -70,7 +70,7 @@ loop-less c = search needs
 loop-again : tie.Need-loop-again Inv-loop μ-loop
 loop-again c =
     let a = c .before .before in
-    let S = a .before .args .samples in
+    let S = a .before .args .recorded in
     let j = a .loop .j in
     let len = a .loop .inv .2 in
     let start = a .loop .inv .4 j (omega arith) in

@@ -18,7 +18,7 @@ abbrev μ-loop : tie.MeasureT-loop
 
 loop-holds : tie.Need-loop-holds Inv-loop μ-loop
 loop-holds c =
-    let S = c .args .samples in
+    let S = c .args .recorded in
     (omega arith, omega (arith, storeLength-is S 0, levelStart-zero S, levelLength-zero S), sym (levelLength-zero S))
 
 half-length-requires : tie.Need-half-length-requires Inv-loop μ-loop
@@ -27,7 +27,7 @@ half-length-requires c κs = search needs
 add-words : tie.Need-add-words Inv-loop μ-loop
 add-words c =
     let a = c .before .before in
-    omega (arith, storeLength-≤ (a .before .args .samples) (a .loop .j) (a .before .pre .0), halfLength-≤ (a .loop .length), levelLength-≤ (a .before .args .samples) (a .loop .j))
+    omega (arith, storeLength-≤ (a .before .args .recorded) (a .loop .j) (a .before .pre .0), halfLength-≤ (a .loop .length), levelLength-≤ (a .before .args .recorded) (a .loop .j))
 
 add-j : tie.Need-add-j Inv-loop μ-loop
 add-j c = omega arith
@@ -38,12 +38,12 @@ loop-less c = omega arith
 loop-again : tie.Need-loop-again Inv-loop μ-loop
 loop-again c =
     let a = c .before .before in
-    let S = a .before .args .samples in
+    let S = a .before .args .recorded in
     let half = c .half-length .ensures ∙ ap halfLength (a .loop .inv .2) ∙ sym (levelLength-more S (a .loop .j)) in
     (omega arith, omega (arith, half, storeLength-more S (a .loop .j)), half)
 
 returns : tie.Need-returns Inv-loop μ-loop
-returns c = c .before .loop .inv .1 ∙ ap (storeLength (c .before .before .args .samples)) (omega arith)
+returns c = c .before .loop .inv .1 ∙ ap (storeLength (c .before .before .args .recorded)) (omega arith)
 
 pub store-length-spec : {M : Type 1} → statement M
 store-length-spec =
