@@ -2,6 +2,9 @@
 //! compiled as their users would, each example with the archives that it needs
 //! and no other, and prints what stands beside it.
 
+mod places;
+
+use places::{archive_dir, repository};
 use std::env;
 use std::fs;
 use std::path::{Path, PathBuf};
@@ -16,18 +19,6 @@ type Language = (&'static str, &'static str, &'static str);
 
 const C: Language = ("gcc", "-std=c99", "c");
 const CPP: Language = ("g++", "-std=c++98", "c++");
-
-fn repository() -> PathBuf {
-    Path::new(env!("CARGO_MANIFEST_DIR")).join("../..")
-}
-
-/// Where the build script finds the archives, too.
-fn archive_dir() -> PathBuf {
-    match env::var_os("TONE_ARCHIVE_DIR") {
-        Some(dir) => PathBuf::from(dir),
-        None => repository().join("target/staticlib"),
-    }
-}
 
 fn compiler((name, standard, language): Language) -> Command {
     let mut command = Command::new(name);

@@ -2,22 +2,13 @@
 //! their own that ask for one feature. Each is built where only its archive can be
 //! found, and prints what its twin in C prints.
 
+mod places;
+
+use places::{archive_dir, repository};
 use std::env;
 use std::fs;
 use std::path::{Path, PathBuf};
 use std::process::{Command, Output};
-
-fn repository() -> PathBuf {
-    Path::new(env!("CARGO_MANIFEST_DIR")).join("../..")
-}
-
-/// Where the build script finds the archives, too.
-fn archive_dir() -> PathBuf {
-    match env::var_os("TONE_ARCHIVE_DIR") {
-        Some(dir) => PathBuf::from(dir),
-        None => repository().join("target/staticlib"),
-    }
-}
 
 /// An empty folder of this name.
 fn emptied(name: &str) -> PathBuf {
