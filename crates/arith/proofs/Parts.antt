@@ -6,7 +6,7 @@ use native.Mathlib.Decide.{decLt}
 use native.Mathlib.Omega.{arith}
 use lib.IntN.{ℤ, pos}
 use lib.ListN.{length, take, drop, replicate, length-append, length-take, length-drop}
-use lib.Seq.{length-take-le, take-add, take-at, drop-at, drop-drop, drop-length, drop-append-add, getD-take, getD-drop, paste, take-paste, drop-paste, length-paste}
+use lib.Seq.{length-take-le, take-add, take-all, take-at, drop-at, drop-drop, drop-length, drop-append-add, getD-take, getD-drop, paste, take-paste, drop-paste, length-paste}
 use Rattle.arith.specs.Lists.{at, part, tabulate, overwrite}
 use Rattle.arith.proofs.Lists.{part-length, at-outside, paste-all}
 
@@ -36,6 +36,17 @@ pub overwrite-behind : {A : Type 0} (xs ys zs : List A) (a : ℕ) → length ys 
 overwrite-behind xs ys zs a e =
     let l : 0 + length (ys ++ zs) ≡ 0 + length ys + length zs = omega (arith, length-append ys zs) in
     rw (← e, l, take-at ys (drop (0 + length ys) xs) (length ys) refl, drop-append-add) (ap (λ r. ys ++ zs ++ r) (drop-drop (length zs) (0 + length ys) xs))
+
+-- what lies from place a on, lent as a slice of k words and put back with a list written at its front
+pub overwrite-lent : {A : Type 0} (xs ys : List A) (a k : ℕ) → a + k ≡ length xs → take a xs ++ (overwrite (part xs a k) 0 ys ++ drop k (drop a xs)) ≡ overwrite xs a ys
+overwrite-lent xs ys a k e =
+    let whole : part xs a k ≡ drop a xs = take-all k (drop a xs) (simp length-drop (omega arith)) in
+    let none : drop k (drop a xs) ≡ [] = drop-drop k a xs ∙ ap (λ n. drop n xs) e ∙ drop-length xs in
+    let end : a + (0 + length ys) ≡ a + length ys = omega arith in
+    ap₂ (λ w r. take a xs ++ (overwrite w 0 ys ++ r)) whole none
+    ∙ ap (λ r. take a xs ++ r) (append-nil (overwrite (drop a xs) 0 ys))
+    ∙ ap (λ r. take a xs ++ (ys ++ r)) (drop-drop (0 + length ys) a xs ∙ ap (λ n. drop n xs) end)
+    ∙ sym (append-assoc (take a xs) ys (drop (a + length ys) xs))
 
 -- a longer list written over a shorter one
 pub overwrite-again : {A : Type 0} (xs ys zs : List A) → length ys ≤ length zs → overwrite (overwrite xs 0 ys) 0 zs ≡ overwrite xs 0 zs

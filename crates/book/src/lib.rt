@@ -3,12 +3,11 @@
 
 ghost use mathlib.Core.Bool.{cond};
 ghost use mathlib.Core.Path.{_≡_};
-ghost use Prim.Native.Nat.{_^_, _≤_, _<_};
-ghost use lib.IntN.{natAbs};
+ghost use Prim.Native.Nat.{_≤_};
 ghost use lib.ListN.{length};
-ghost use Rattle.arith.specs.Lists.{at};
 ghost use Rattle.book.specs.Book.{sizesOf, levelTaps, decimationTaps};
 ghost use Rattle.book.specs.Check.{bookNumber};
+use arith::words::word_size;
 
 mod differences; // number 6
 mod ranges; // numbers 2 and 4
@@ -26,14 +25,6 @@ pub struct Sizes {
     pub decimation: usize,
     // F: points of a fade
     pub fade: usize,
-}
-
-// The absolute value of a word.
-fn word_size(words: &[i32], i: usize) -> usize
-    requires { ⌜ i < length (now words) ⌝ }
-    ensures { λ r. ⌜ (r ≡ natAbs (at (now (words .entry)) i)) × (r ≤ 2 ^ 31) ⌝ }
-{
-    arith::magnitude(words[i]) as usize
 }
 
 // 1 where a test fails. A loop that counts these has no exit on the way, so that it takes several words at once.

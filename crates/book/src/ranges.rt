@@ -2,32 +2,13 @@
 
 ghost use mathlib.Core.Bool.{true};
 ghost use mathlib.Core.Path.{_≡_};
-ghost use Prim.Native.Nat.{_+_, _*_, _≤_, _<_};
+ghost use Prim.Native.Nat.{_+_, _*_, _≤_};
 ghost use lib.ListN.{length};
-ghost use Rattle.arith.specs.Lists.{at};
-ghost use Rattle.arith.specs.Tests.{within};
 ghost use Rattle.book.specs.Book.{sizesOf, bookLength};
 ghost use Rattle.book.specs.Check.{powerOfTwo, sizesInRange, wordsInRange, coefficientsInRange};
 use crate::miss;
-use crate::word_size;
-
-// lo ≤ x ≤ hi
-fn between(x: i32, lo: i32, hi: i32) -> bool
-    ensures { λ r. ⌜ r ≡ within lo hi x ⌝ }
-{
-    if x < lo {
-        return false;
-    }
-    x <= hi
-}
-
-// The same of a word.
-fn word_between(book: &[i32], i: usize, lo: i32, hi: i32) -> bool
-    requires { ⌜ i < length (now book) ⌝ }
-    ensures { λ r. ⌜ r ≡ within lo hi (at (now (book .entry)) i) ⌝ }
-{
-    between(book[i], lo, hi)
-}
+use arith::words::word_between;
+use arith::words::word_size;
 
 fn power_of_two(m: usize) -> bool
     ensures { λ r. ⌜ r ≡ powerOfTwo m ⌝ }

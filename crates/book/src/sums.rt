@@ -8,7 +8,7 @@ ghost use lib.ListN.{length};
 ghost use Rattle.arith.specs.Tests.{every};
 ghost use Rattle.book.specs.Book.{sizesOf, levelTapsAt, decimationTapsAt, bookLength};
 ghost use Rattle.book.specs.Check.{sizesInRange, coefficientsInRange, phaseSum, tapSum, sumsInRange};
-use crate::word_size;
+use arith::words::word_size;
 
 // Whether every phase's sum is at most 65536. The check stops at the first phase whose sum is too large. Impulses in
 // range have sums that 32 bits hold.

@@ -1,12 +1,12 @@
--- `book::ranges::between` meets its contract. Assumes nothing.
+-- `arith::words::between` meets its contract. Assumes nothing.
 use mathlib.Core.Bool.{true, false}
 use mathlib.Core.Path.{_≡_}
 use lib.IntN.{ℤ}
 use lib.Signed.{leZ, _<ℤ_, _≤ℤ_}
 use Rattle.arith.proofs.Bits.{reads}
 use Rattle.arith.proofs.Linear.{linear, signed, lt-yes, lt-no}
-use Rattle.book.proofs.ranges.between.Statement.{statement}
-use Rattle.book.proofs.ranges.between.Tie as tie
+use Rattle.arith.proofs.words.between.Statement.{statement}
+use Rattle.arith.proofs.words.between.Tie as tie
 
 -- the first test, decided
 below-fails : (lo x : ℤ) → x <ℤ lo → leZ lo x ≡ false

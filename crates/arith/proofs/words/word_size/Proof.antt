@@ -1,12 +1,12 @@
--- `book::word_size` meets its contract. Assumes nothing.
+-- `arith::words::word_size` meets its contract. Assumes nothing.
 use lib.Signed.{natAbs-le}
 use mir.Syntax.{w32}
 use mir.Val.{SFits}
 use Rattle.arith.specs.Lists.{at}
 use Rattle.arith.proofs.Bits.{reads}
 use borrow.Author.Needs.{needs}
-use Rattle.book.proofs.word_size.Statement.{statement}
-use Rattle.book.proofs.word_size.Tie as tie
+use Rattle.arith.proofs.words.word_size.Statement.{statement}
+use Rattle.arith.proofs.words.word_size.Tie as tie
 
 mul-magnitude : tie.Need-mul-magnitude
 mul-magnitude c = search needs

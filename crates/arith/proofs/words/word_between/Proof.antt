@@ -1,11 +1,11 @@
--- `book::ranges::word_between` meets its contract. Assumes nothing.
+-- `arith::words::word_between` meets its contract. Assumes nothing.
 use mir.Syntax.{w32}
 use mir.Val.{SFits}
 use Rattle.arith.specs.Lists.{at}
 use Rattle.arith.proofs.Bits.{reads}
 use borrow.Author.Needs.{needs}
-use Rattle.book.proofs.ranges.word_between.Statement.{statement}
-use Rattle.book.proofs.ranges.word_between.Tie as tie
+use Rattle.arith.proofs.words.word_between.Statement.{statement}
+use Rattle.arith.proofs.words.word_between.Tie as tie
 
 mul-between : tie.Need-mul-between
 mul-between c = search needs
@@ -16,7 +16,7 @@ shared-slice-copy-out-between c = search needs
 between-requires : tie.Need-between-requires
 between-requires c κs = search needs
 
-word-fits : (c : tie.After-between-arg) → SFits w32 (at (c .before .args .book .now) (c .before .args .i))
+word-fits : (c : tie.After-between-arg) → SFits w32 (at (c .before .args .words .now) (c .before .args .i))
 word-fits c = record { sfits = c .between-arg .given }
 
 returns : tie.Need-returns
