@@ -1,3 +1,3 @@
-pub mod Lengths
 pub mod Laws
+pub mod Stores
 pub mod Fitting

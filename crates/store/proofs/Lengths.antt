@@ -1,5 +1,5 @@
--- The lengths of levels: each level is at most as long as the recording, and the next level begins where one ends. Assumes nothing.
-use mathlib.Core.Path.{_≡_, refl}
+-- The lengths of levels and stores: each level is at most as long as the recording, and the next level begins where one ends. Assumes nothing.
+use mathlib.Core.Path.{_≡_, refl, ap}
 use Prim.Native.Nat.{ℕ, zero, suc, _+_, _*_, _≤_}
 use native.Mathlib.Nat.{le-trans}
 use native.Mathlib.Numerals.{add-one}
@@ -8,7 +8,9 @@ use Rattle.arith.proofs.Sum.{total-more, total-≤, total-same, total-mono}
 use Rattle.arith.specs.Sum.{total}
 use Rattle.octave.specs.Octave.{halfLength}
 use Rattle.octave.proofs.Octave.{halfLength-≤}
-use Rattle.levels.specs.Sizes.{levelLength, levelStart, storeLength}
+use Rattle.store.specs.Sizes.{levelLength, levelsBelow, headerLength, levelStart, storeLength}
+
+-- ---- levels
 
 pub levelLength-≤ : (S j : ℕ) → levelLength S j ≤ S
 unfolding levelLength
@@ -23,30 +25,31 @@ pub levelLength-more : (S j : ℕ) → levelLength S (j + 1) ≡ halfLength (lev
 unfolding levelLength
 levelLength-more S j = rw add-one
 
-pub levelStart-zero : (S : ℕ) → levelStart S 0 ≡ 0
-unfolding levelStart total
-levelStart-zero S = refl
+pub levelsBelow-zero : (S : ℕ) → levelsBelow S 0 ≡ 0
+unfolding levelsBelow total
+levelsBelow-zero S = refl
 
-pub levelStart-more : (S j : ℕ) → levelStart S (j + 1) ≡ levelStart S j + levelLength S j
-unfolding levelStart
-levelStart-more S j = total-more j (λ i. levelLength S i)
+pub levelsBelow-more : (S j : ℕ) → levelsBelow S (j + 1) ≡ levelsBelow S j + levelLength S j
+unfolding levelsBelow
+levelsBelow-more S j = total-more j (λ i. levelLength S i)
 
--- a store ends where the level above its last would begin
-pub storeLength-is : (S T : ℕ) → storeLength S T ≡ levelStart S T + levelLength S T
-unfolding storeLength levelStart total
-storeLength-is S T = refl
+pub levelsBelow-mono : (S : ℕ) {m n : ℕ} → m ≤ n → levelsBelow S m ≤ levelsBelow S n
+unfolding levelsBelow
+levelsBelow-mono S {m} {n} h = total-mono m n (λ i. levelLength S i) h
 
-pub storeLength-suc : (S T : ℕ) → storeLength S (suc T) ≡ storeLength S T + levelLength S (suc T)
-unfolding storeLength levelStart total
-storeLength-suc S T = refl
+pub levelsBelow-≤ : (S j : ℕ) {c : ℕ} → S ≤ c → levelsBelow S j ≤ j * c
+unfolding levelsBelow
+levelsBelow-≤ S j {c} h = rw (← total-same j c) (total-≤ j (λ i l. le-trans (levelLength-≤ S i) h))
 
-pub storeLength-more : (S T : ℕ) → storeLength S (T + 1) ≡ storeLength S T + levelLength S (T + 1)
-storeLength-more S T = rw add-one (storeLength-suc S T)
+-- ---- places in a store
 
-pub storeLength-mono : (S : ℕ) {m n : ℕ} → m ≤ n → storeLength S m ≤ storeLength S n
-unfolding storeLength levelStart
-storeLength-mono S {m} {n} h = total-mono (suc m) (suc n) (λ i. levelLength S i) (omega arith)
+pub levelStart-is : (S T j : ℕ) → levelStart S T j ≡ 3 + T + levelsBelow S j
+unfolding levelStart headerLength
+levelStart-is S T j = refl
 
-pub storeLength-≤ : (S T : ℕ) {c : ℕ} → S ≤ c → storeLength S T ≤ suc T * c
-unfolding storeLength levelStart
-storeLength-≤ S T {c} h = rw (← total-same (suc T) c) (total-≤ (suc T) (λ i l. le-trans (levelLength-≤ S i) h))
+pub levelStart-more : (S T j : ℕ) → levelStart S T (j + 1) ≡ levelStart S T j + levelLength S j
+levelStart-more S T j = omega (arith, levelStart-is S T j, levelStart-is S T (j + 1), levelsBelow-more S j)
+
+pub storeLength-is : (S T : ℕ) → storeLength S T ≡ 3 + T + levelsBelow S (T + 1)
+unfolding storeLength
+storeLength-is S T = rw add-one (levelStart-is S T (suc T))

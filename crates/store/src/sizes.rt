@@ -3,31 +3,16 @@
 ghost use mathlib.Core.Path.{_≡_};
 ghost use Prim.Native.Nat.{ℕ, _≤_, _<_};
 ghost use lib.ListN.{getD};
-ghost use Rattle.levels.specs.Sizes.{levelStart, storeLength};
+ghost use Rattle.store.specs.Sizes.{levelStart, storeLength};
 use octave::half_length;
 
-// The words of levels 0..top.
-pub fn store_length(recorded: usize, top: u32) -> usize
+// Where levels 0..4 begin in a store for levels 0..top, and in the last place where level 4 ends.
+pub fn level_starts(recorded: usize, top: u32) -> [usize; 6]
     requires { ⌜ (recorded ≤ 1048576) × (top ≤ 4) ⌝ }
-    ensures { λ r. ⌜ r ≡ storeLength recorded top ⌝ }
-{
-    let mut words = recorded;
-    let mut length = recorded;
-    let mut j = 0;
-    while j < top {
-        length = half_length(length);
-        words += length;
-        j += 1;
-    }
-    words
-}
-
-// Where levels 0..4 begin, and in the last place where level 4 ends.
-pub fn level_starts(recorded: usize) -> [usize; 6]
-    requires { ⌜ recorded ≤ 1048576 ⌝ }
-    ensures { λ r. ⌜ ((j : ℕ) → j < 6 → getD r j 0 ≡ levelStart recorded j) ⌝ }
+    ensures { λ r. ⌜ ((j : ℕ) → j < 6 → getD r j 0 ≡ levelStart recorded top j) ⌝ }
 {
     let mut starts = [0usize; 6];
+    starts[0] = 3 + top as usize;
     let mut length = recorded;
     let mut j = 0;
     while j < 5 {
@@ -36,4 +21,20 @@ pub fn level_starts(recorded: usize) -> [usize; 6]
         j += 1;
     }
     starts
+}
+
+// The words of a store for levels 0..top.
+pub fn store_length(recorded: usize, top: u32) -> usize
+    requires { ⌜ (recorded ≤ 1048576) × (top ≤ 4) ⌝ }
+    ensures { λ r. ⌜ r ≡ storeLength recorded top ⌝ }
+{
+    let mut words = 3 + top as usize + recorded;
+    let mut length = recorded;
+    let mut j = 0;
+    while j < top {
+        length = half_length(length);
+        words += length;
+        j += 1;
+    }
+    words
 }

@@ -14,7 +14,7 @@ pub extern "C" fn tone_check(book: &[i32]) -> u32
     book::check(book)
 }
 
-// The words of a store for `sample_count` samples and levels 0..top; 0 where one of the two is outside its range.
+// The words of a store for `sample_count` samples and levels 0..top, its header among them; 0 where one of the two is outside its range.
 #[no_mangle]
 pub extern "C" fn tone_store_words(sample_count: usize, top: u32) -> usize
     ensures { λ r. ⌜ r ≡ storeWords «sample_count» top ⌝ }
@@ -28,10 +28,10 @@ pub extern "C" fn tone_store_words(sample_count: usize, top: u32) -> usize
     if 4 < top {
         return 0;
     }
-    levels::sizes::store_length(sample_count, top)
+    store::sizes::store_length(sample_count, top)
 }
 
-// Writes the levels of the samples to the head of the store.
+// Writes the header and the levels of the samples to the front of the store.
 #[no_mangle]
 pub extern "C" fn tone_build(book: &[i32], samples: &[i16], top: u32, store: &mut [i32]) -> u32
     ensures { λ r. ⌜ built r (now (store .exit)) ≡ buildAnswer (now (book .entry)) (now (samples .entry)) top (now (store .entry)) ⌝ }

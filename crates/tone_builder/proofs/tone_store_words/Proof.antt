@@ -1,29 +1,28 @@
 -- `tone_builder::tone_store_words` meets its contract. Assumes nothing.
 use borrow.Author.Needs.{needs}
-use Rattle.arith.proofs.Tests.{tests}
-use Rattle.levels.specs.Sizes.{samplesInRange, topInRange}
+use Rattle.store.proofs.Ranges.{ranges}
 use Rattle.tone_builder.specs.Store.{storeWords}
 use Rattle.tone_builder.proofs.tone_store_words.Statement.{statement}
 use Rattle.tone_builder.proofs.tone_store_words.Tie as tie
 
 returns : tie.Need-returns
-unfolding storeWords samplesInRange topInRange
-returns c = search tests
+unfolding storeWords
+returns c = search ranges
 
 returns-2 : tie.Need-returns-2
-unfolding storeWords samplesInRange topInRange
-returns-2 c = search tests
+unfolding storeWords
+returns-2 c = search ranges
 
 returns-3 : tie.Need-returns-3
-unfolding storeWords samplesInRange topInRange
-returns-3 c = search tests
+unfolding storeWords
+returns-3 c = search ranges
 
 store-length-requires : tie.Need-store-length-requires
 store-length-requires c κs = search needs
 
 returns-4 : tie.Need-returns-4
-unfolding storeWords samplesInRange topInRange
-returns-4 c = search (tests, c .store-length .ensures)
+unfolding storeWords
+returns-4 c = search (ranges, c .store-length .ensures)
 
 pub tone-store-words-spec : {M : Type 1} → statement M
 tone-store-words-spec =

@@ -1,4 +1,4 @@
--- `levels::store::first_level` meets its contract. The loop's invariant: the store is as it was, with the first i words of level 0 written at its
+-- `levels::writer::first_level` meets its contract. The loop's invariant: the store is as it was, with the first i words of level 0 written at its
 -- front, and the first i samples lie in their range. Assumes nothing.
 use mathlib.Core.Path.{_≡_, sym, ap, ap₂, _∙_}
 use mathlib.Core.List.{List}
@@ -19,8 +19,8 @@ use Rattle.arith.proofs.Bits.{reads, toZ-ofZ-from}
 use Rattle.arith.proofs.Lists.{at-outside, paste-none, paste-more, paste-all}
 use Rattle.levels.specs.Levels.{firstLevel}
 use Rattle.levels.proofs.Laws.{length-first, at-first}
-use Rattle.levels.proofs.store.first_level.Statement.{statement}
-use Rattle.levels.proofs.store.first_level.Tie as tie
+use Rattle.levels.proofs.writer.first_level.Statement.{statement}
+use Rattle.levels.proofs.writer.first_level.Tie as tie
 
 abbrev Inv-loop : tie.InvT-loop
 Inv-loop samples store₀ i₀ store i =

@@ -1,4 +1,4 @@
--- `levels::store::write_levels` meets its contract. The loop's invariant: level j begins at `start` and has `length` words, and the store is as it
+-- `levels::writer::write_levels` meets its contract. The loop's invariant: level j begins at `start` and has `length` words, and the store is as it
 -- was, with levels 0..j written at its front. Assumes nothing.
 use mathlib.Core.Path.{_≡_, sym, ap, ap₂, _∙_}
 use mathlib.Core.List.{List}
@@ -10,17 +10,17 @@ use lib.IntN.{ℤ, natAbs}
 use lib.ListN.{length, drop}
 use Rattle.arith.specs.Lists.{at, part, overwrite}
 use Rattle.octave.specs.Octave.{halfLength, nextLevel}
-use Rattle.levels.specs.Sizes.{levelLength, levelStart, storeLength}
+use Rattle.store.specs.Sizes.{levelLength, levelsBelow}
 use Rattle.levels.specs.Levels.{levelOf, levelsOf}
-use Rattle.levels.proofs.Lengths.{levelLength-zero, levelLength-more, levelStart-zero, levelStart-more, storeLength-is, storeLength-more, storeLength-mono}
+use Rattle.store.proofs.Lengths.{levelLength-zero, levelLength-more, levelsBelow-zero, levelsBelow-more, levelsBelow-mono}
 use Rattle.arith.proofs.Parts.{overwrite-again, length-overwrite}
 use Rattle.levels.proofs.Laws.{length-first, length-levels, level-bound, levels-zero, level-begins, levels-more}
-use Rattle.levels.proofs.store.write_levels.Statement.{statement}
-use Rattle.levels.proofs.store.write_levels.Tie as tie
+use Rattle.levels.proofs.writer.write_levels.Statement.{statement}
+use Rattle.levels.proofs.writer.write_levels.Tie as tie
 
 abbrev Inv-loop : tie.InvT-loop
 Inv-loop taps samples top store₀ start₀ words₀ j₀ store start words j =
-    (j ≤ top) × (start ≡ levelStart (length samples) j) × (words ≡ levelLength (length samples) j) × (store ≡ overwrite store₀ 0 (levelsOf taps samples j))
+    (j ≤ top) × (start ≡ levelsBelow (length samples) j) × (words ≡ levelLength (length samples) j) × (store ≡ overwrite store₀ 0 (levelsOf taps samples j))
 
 abbrev μ-loop : tie.MeasureT-loop
 μ-loop taps samples top store₀ start₀ words₀ j₀ store start words j = top - j
@@ -37,13 +37,15 @@ module _ (s : tie.Start Inv-loop μ-loop) where
 
   -- levels 0..j have room in the store
   room : (j : ℕ) → j ≤ s .args .top → length (levelsOf taps samples j) ≤ length given
-  room j h = omega (arith, length-levels taps samples j, storeLength-mono (length samples) h)
+  room j h =
+      let e : j + 1 ≤ s .args .top + 1 = omega arith in
+      omega (arith, length-levels taps samples j, levelsBelow-mono (length samples) e)
 
   -- they cover level 0, which is written first
   longer : (j : ℕ) → length (levelsOf taps samples 0) ≤ length (levelsOf taps samples j)
   longer j =
-      let h : 0 ≤ j = omega arith in
-      omega (arith, length-levels taps samples 0, length-levels taps samples j, storeLength-mono (length samples) h)
+      let h : 0 + 1 ≤ j + 1 = omega arith in
+      omega (arith, length-levels taps samples 0, length-levels taps samples j, levelsBelow-mono (length samples) h)
 
 -- after level 0
 module _ (c : tie.After-first-level Inv-loop μ-loop) where
@@ -86,8 +88,8 @@ module _ (a : tie.At-loop Inv-loop μ-loop) where
       ∙ level-begins (taps (s f)) (samples (s f)) (drop (0 + length (levelsOf (taps (s f)) (samples (s f)) j)) (given (s f))) j j (le-refl j)
 
   -- the end of level j
-  end-is : a .loop .start + a .loop .length ≡ storeLength S j
-  end-is = omega (arith, storeLength-is S j)
+  end-is : a .loop .start + a .loop .length ≡ levelsBelow S (j + 1)
+  end-is = omega (arith, levelsBelow-more S j)
 
 -- in a turn
 module _ (t : tie.In-loop Inv-loop μ-loop) where
@@ -96,8 +98,8 @@ module _ (t : tie.In-loop Inv-loop μ-loop) where
 
   next-fits : a .loop .start + a .loop .length + halfLength (a .loop .length) ≤ length (given (s (f a)))
   next-fits =
-      let h : j a + 1 ≤ s (f a) .args .top = omega arith in
-      omega (arith, end-is a, ap halfLength (a .loop .inv .2), levelLength-more (S a) (j a), storeLength-more (S a) (j a), storeLength-mono (S a) h)
+      let h : j a + 1 + 1 ≤ s (f a) .args .top + 1 = omega arith in
+      omega (arith, end-is a, ap halfLength (a .loop .inv .2), levelLength-more (S a) (j a), levelsBelow-more (S a) (j a + 1), levelsBelow-mono (S a) h)
 
   level-small : (k : ℕ) → natAbs (at (levelOf (taps (s (f a))) (samples (s (f a))) (j a)) k) ≤ 2 ^ 26
   level-small k =
@@ -121,7 +123,7 @@ loop-holds : tie.Need-loop-holds Inv-loop μ-loop
 loop-holds c =
     let f = c .before in
     let S = length (samples (s f)) in
-    (omega arith, sym (levelStart-zero S), sym (levelLength-zero S), first-is f ∙ sym (over-first f 0))
+    (omega arith, sym (levelsBelow-zero S), sym (levelLength-zero S), first-is f ∙ sym (over-first f 0))
 
 next-level-requires : tie.Need-next-level-requires Inv-loop μ-loop
 next-level-requires c κs =
@@ -147,7 +149,7 @@ loop-again : tie.Need-loop-again Inv-loop μ-loop
 loop-again c =
     let a = c .before .before .before .before .before in (
       omega arith,
-      omega (arith, levelStart-more (S a) (j a)),
+      omega (arith, levelsBelow-more (S a) (j a)),
       c .half-length .ensures ∙ ap halfLength (a .loop .inv .2) ∙ sym (levelLength-more (S a) (j a)),
       written (c .before .before),
     )

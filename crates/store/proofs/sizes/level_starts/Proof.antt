@@ -1,43 +1,42 @@
--- `levels::sizes::level_starts` meets its contract. The loop's invariant: the first j + 1 places are the levels' starts, and `length` is
--- that of level j. Assumes nothing.
+-- `store::sizes::level_starts` meets its contract. The loop's invariant: the first j + 1 places are the levels' starts, and `length` is that of
+-- level j. Assumes nothing.
 use borrow.Author.Needs.{needs}
 use mathlib.Core.Path.{_≡_, refl, sym, ap, ap₂, _∙_}
 use Prim.Native.Nat.{ℕ, _+_, _*_, _-_, _≤_, _<_}
-use native.Mathlib.Decide.{ℕ-discrete}
 use native.Mathlib.Omega.{arith}
-use lib.ListN.{length, getD, set, length-set}
-use lib.Seq.{getD-set-same, getD-set-other}
-use mathlib.Core.List.{List}
+use lib.ListN.{length, getD, length-set}
+use lib.Seq.{getD-set-same}
+use Rattle.arith.proofs.Lists.{filled-more}
 use Rattle.octave.specs.Octave.{halfLength}
-use Rattle.levels.specs.Sizes.{levelLength, levelStart}
-use Rattle.levels.proofs.Lengths.{levelLength-zero, levelLength-≤, levelLength-more, levelStart-zero, levelStart-more}
-use Rattle.levels.proofs.sizes.level_starts.Statement.{statement}
-use Rattle.levels.proofs.sizes.level_starts.Tie as tie
+use Rattle.store.specs.Sizes.{levelLength, levelStart}
+use Rattle.store.proofs.Lengths.{levelLength-zero, levelLength-≤, levelLength-more, levelsBelow-zero, levelStart-is, levelStart-more}
+use Rattle.store.proofs.sizes.level_starts.Statement.{statement}
+use Rattle.store.proofs.sizes.level_starts.Tie as tie
 
 abbrev Inv-loop : tie.InvT-loop
-Inv-loop samples starts₀ length₀ j₀ starts len j =
-    (j ≤ 5) × (length starts ≡ 6) × (len ≡ levelLength samples j) × (getD starts j 0 ≤ j * 1048576) × ((i : ℕ) → i < j + 1 → getD starts i 0 ≡ levelStart samples i)
+Inv-loop recorded top starts₀ length₀ j₀ starts len j =
+    (j ≤ 5) × (length starts ≡ 6) × (len ≡ levelLength recorded j) × (getD starts j 0 ≤ (j + 1) * 1048576) × ((i : ℕ) → i < j + 1 → getD starts i 0 ≡ levelStart recorded top i)
 
 abbrev μ-loop : tie.MeasureT-loop
-μ-loop samples starts₀ length₀ j₀ starts length j = 5 - j
+μ-loop recorded top starts₀ length₀ j₀ starts length j = 5 - j
 
--- one start more
-placed : (S : ℕ) (starts : List ℕ) (j v : ℕ) → j + 1 < length starts → ((i : ℕ) → i < j + 1 → getD starts i 0 ≡ levelStart S i) → v ≡ levelStart S (j + 1)
-    → (i : ℕ) → i < j + 1 + 1 → getD (set starts (j + 1) v) i 0 ≡ levelStart S i
-placed S starts j v h below e i l = go (ℕ-discrete i (j + 1))
-  where
-    go : Dec (i ≡ j + 1) → getD (set starts (j + 1) v) i 0 ≡ levelStart S i
-    go (yes p) = rw p (getD-set-same starts (j + 1) v 0 h ∙ e)
-    go (no n) = getD-set-other starts (j + 1) i v 0 n ∙ below i (omega arith)
+add-starts : tie.Need-add-starts Inv-loop μ-loop
+add-starts c = search needs
+
+array-write-starts : tie.Need-array-write-starts Inv-loop μ-loop
+array-write-starts c = search needs
 
 loop-holds : tie.Need-loop-holds Inv-loop μ-loop
 loop-holds c =
-    let S = c .args .recorded in (
+    let a = c .args in
+    let S = a .recorded in (
       omega arith,
       refl,
       sym (levelLength-zero S),
       omega arith,
-      λ i h. let e : i ≡ 0 = omega arith in rw e (sym (levelStart-zero S)),
+      λ i h.
+          let e : i ≡ 0 = omega arith in
+          rw e (omega (arith, levelStart-is S (a .top) 0, levelsBelow-zero S)),
     )
 
 mul-starts : tie.Need-mul-starts Inv-loop μ-loop
@@ -46,17 +45,17 @@ mul-starts c = search needs
 array-read-starts : tie.Need-array-read-starts Inv-loop μ-loop
 array-read-starts c = search needs
 
-add-starts : tie.Need-add-starts Inv-loop μ-loop
-add-starts c = omega (arith, c .before .loop .inv .2, levelLength-≤ (c .before .before .args .recorded) (c .before .loop .j))
-
 add-starts-2 : tie.Need-add-starts-2 Inv-loop μ-loop
-add-starts-2 c = search needs
+add-starts-2 c = omega (arith, c .before .loop .inv .2, levelLength-≤ (c .before .before .args .recorded) (c .before .loop .j))
+
+add-starts-3 : tie.Need-add-starts-3 Inv-loop μ-loop
+add-starts-3 c = search needs
 
 mul-starts-2 : tie.Need-mul-starts-2 Inv-loop μ-loop
 mul-starts-2 c = search needs
 
-array-write-starts : tie.Need-array-write-starts Inv-loop μ-loop
-array-write-starts c = search needs
+array-write-starts-2 : tie.Need-array-write-starts-2 Inv-loop μ-loop
+array-write-starts-2 c = search needs
 
 half-length-requires : tie.Need-half-length-requires Inv-loop μ-loop
 half-length-requires c κs = search needs
@@ -71,15 +70,16 @@ loop-again : tie.Need-loop-again Inv-loop μ-loop
 loop-again c =
     let a = c .before .before in
     let S = a .before .args .recorded in
+    let T = a .before .args .top in
     let j = a .loop .j in
     let len = a .loop .inv .2 in
     let start = a .loop .inv .4 j (omega arith) in
-    let next : getD (a .loop .starts) j 0 + a .loop .length ≡ levelStart S (j + 1) = ap₂ _+_ start len ∙ sym (levelStart-more S j) in (
+    let next : getD (a .loop .starts) j 0 + a .loop .length ≡ levelStart S T (j + 1) = ap₂ _+_ start len ∙ sym (levelStart-more S T j) in (
       omega arith,
       simp length-set (a .loop .inv .1),
       c .half-length .ensures ∙ ap halfLength len ∙ sym (levelLength-more S j),
       rw (getD-set-same (a .loop .starts) (j + 1) (getD (a .loop .starts) j 0 + a .loop .length) 0 (omega arith)) (omega (arith, levelLength-≤ S j)),
-      placed S (a .loop .starts) j _ (omega arith) (a .loop .inv .4) next,
+      filled-more 0 (levelStart S T) (a .loop .starts) (j + 1) (omega arith) (a .loop .inv .4) next,
     )
 
 returns : tie.Need-returns Inv-loop μ-loop
@@ -91,13 +91,15 @@ level-starts-spec =
     (tie.spec
     Inv-loop
     μ-loop
+    add-starts
+    array-write-starts
     loop-holds
     mul-starts
     array-read-starts
-    add-starts
     add-starts-2
+    add-starts-3
     mul-starts-2
-    array-write-starts
+    array-write-starts-2
     half-length-requires
     add-j
     loop-less

@@ -1,0 +1,4 @@
+pub mod Ranges
+pub mod Lengths
+pub mod Accepted
+pub mod Headers

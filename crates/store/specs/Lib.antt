@@ -1,0 +1,3 @@
+pub mod Sizes
+pub mod Store
+pub mod Check
