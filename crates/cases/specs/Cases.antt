@@ -1,4 +1,4 @@
--- The starred bench cases of document 01 as one table: what the definitions give, and what the document states.
+-- The starred bench cases of document 01 as one table, case I as document 02 (a) has it: what the definitions give, and what the documents state.
 use mathlib.Core.Path.{_≡_, refl}
 use mathlib.Core.List.{List, [], _∷_, map}
 use Prim.Native.Nat.{ℕ}
@@ -13,9 +13,11 @@ use Rattle.book.specs.Number.{refuse, _otherwise_}
 use Rattle.book.specs.Book.{sizesOf, differencesAt, levelTapsAt, decimationTapsAt, bookLength, impulseWord, impulse, difference, levelTaps, decimationTaps}
 use Rattle.book.specs.Check.{powerOfTwo, sizesInRange, wordsInRange, coefficientsInRange, differencesRight, phaseSum, tapSum, sumsInRange, bookNumber}
 use Rattle.octave.specs.Octave.{halfLength, levelSum, levelWord, nextLevel}
-use Rattle.levels.specs.Sizes.{levelLength, levelStart, storeLength, samplesInRange, topInRange}
+use Rattle.store.specs.Sizes.{samplesInRange, topInRange, levelLength, levelsBelow, headerLength, levelStart, storeLength}
+use Rattle.store.specs.Store.{headerOf, sampleCount, topLevel, storeLevel}
+use Rattle.store.specs.Check.{lengthsRight, storeNumber}
 use Rattle.levels.specs.Levels.{firstLevel, levelOf, levelsOf}
-use Rattle.levels.specs.Build.{storeNumber, buildAnswer}
+use Rattle.levels.specs.Build.{buildNumber, builtStore, buildAnswer}
 use Rattle.player.specs.declared.Voice.{Voice}
 use Rattle.control.specs.declared.Order.the-variants.{Jump, Glide}
 use Rattle.player.specs.declared.Answer.{Answer}
@@ -23,11 +25,11 @@ use Rattle.control.specs.Rate.{rateInRange, rateOf, askedLevel, advance}
 use Rattle.control.specs.Moves.{freshControl, jumped, gliding, sought, glideRate, glideAfter, moveGlide, fadeTarget, pointPlan, fadeAfter, movePoint, moveOutput}
 use Rattle.control.specs.Orders.{ordered}
 use Rattle.arith.specs.Limit.{limit}
-use Rattle.values.specs.Values.{limitedWord, storeLevel, unit, phaseAt, offsetAt, coefficient, valueSum, levelValue, value}
+use Rattle.values.specs.Values.{limitedWord, unit, phaseAt, offsetAt, coefficient, valueSum, levelValue, value}
 use Rattle.points.specs.Points.{point}
 use Rattle.player.specs.Outputs.{push, pushTwo, nextVoice, voiceAfter, outputs}
 use Rattle.decimation.specs.Decimation.{outputSum, output}
-use Rattle.refusals.specs.Refusals.{glideCountWrong, outputCountWrong, positionWrong, levelsWrong, fadeWrong, rateWrong, glideWrong, historyWrong, lateNumber, openNumber, orderInputNumber, orderNumber, seekNumber, playStateNumber, playNumber, pointBound}
+use Rattle.refusals.specs.Refusals.{glideCountWrong, outputCountWrong, positionWrong, levelsWrong, topWrong, levelsNumber, fadeWrong, rateWrong, glideWrong, historyWrong, lateNumber, openNumber, orderInputNumber, orderNumber, seekNumber, playStateNumber, playNumber, pointBound}
 use Rattle.player.specs.Calls.{zeroVoice, freshVoice, openAnswer, orderAnswer, seekAnswer, Played, playAnswer}
 
 -- book K with another F, h[0] and g[0]
@@ -55,7 +57,7 @@ abbrev pub opened : Float → ℕ → Answer
 opened r T = openAnswer (record { rate = r; top = T })
 
 abbrev pub playedBy : List ℤ → List ℤ → Voice → ℕ → Played
-playedBy b samples v n = playAnswer b (storeFor b samples (v .control .top)) (length samples) v (replicate n (pos 7))
+playedBy b samples v n = playAnswer b (storeFor b samples (v .control .top)) v (replicate n (pos 7))
 
 pub record Case : Type 0 where
   pub found : List ℤ
@@ -98,17 +100,17 @@ caseE = record {
   stated = pos 1 ∷ pos 0 ∷ negsuc 0 ∷ negsuc 0 ∷ [];
 }
 
--- K with h[0] = 32: sample 1 stands in level 1 as 1, sample −1 as 0
+-- K with h[0] = 32: sample 1 stands in level 1 as 1, sample −1 as 0; before the levels stand S 1, T 1 and two lengths of 1
 unfoldable pub caseF₁ : Case
 caseF₁ = record {
-  found = buildAnswer (bookWith 1 32 16384) (pos 1 ∷ []) 1 (pos 0 ∷ pos 0 ∷ []) .store;
-  stated = pos 256 ∷ pos 1 ∷ [];
+  found = storeFor (bookWith 1 32 16384) (pos 1 ∷ []) 1;
+  stated = pos 1 ∷ pos 1 ∷ pos 1 ∷ pos 1 ∷ pos 256 ∷ pos 1 ∷ [];
 }
 
 unfoldable pub caseF₂ : Case
 caseF₂ = record {
-  found = buildAnswer (bookWith 1 32 16384) (negsuc 0 ∷ []) 1 (pos 0 ∷ pos 0 ∷ []) .store;
-  stated = negsuc 255 ∷ pos 0 ∷ [];
+  found = storeFor (bookWith 1 32 16384) (negsuc 0 ∷ []) 1;
+  stated = pos 1 ∷ pos 1 ∷ pos 1 ∷ pos 1 ∷ negsuc 255 ∷ pos 0 ∷ [];
 }
 
 -- K with g[0] = 32767, T 0, samples 32767 three times, r = 1, play 1: 32767; with −32768 three times: −32768
@@ -130,11 +132,11 @@ caseH =
     let v = orderAnswer (opened rate2 1 .voice) (Glide rate1 3) .voice in
     record { found = pos (playedBy bookK (pos 0 ∷ []) v 1 .voice .control .rate) ∷ []; stated = pos 223696213 ∷ [] }
 
--- store for S 3, T 1: 5 words; S 1, T 4: 5; S 1048576, T 4: 2031616
+-- store for S 3, T 1: 9 words; S 1, T 4: 12; S 1048576, T 4: 2031623
 unfoldable pub caseI : Case
 caseI = record {
   found = pos (storeLength 3 1) ∷ pos (storeLength 1 4) ∷ pos (storeLength 1048576 4) ∷ [];
-  stated = pos 5 ∷ pos 5 ∷ pos 2031616 ∷ [];
+  stated = pos 9 ∷ pos 12 ∷ pos 2031623 ∷ [];
 }
 
 -- T 0: r = 1/16 gives R 8388608; the f32 just below 2 gives 268435440; 2 is refused 10
@@ -152,7 +154,7 @@ starredCases = caseA ∷ caseB ∷ caseC ∷ caseD ∷ caseE ∷ caseF₁ ∷ ca
 
 -- each case is as stated
 pub starred : map (λ c. c .found) starredCases ≡ map (λ c. c .stated) starredCases
-unfolding starredCases caseA caseB caseC caseD caseE caseF₁ caseF₂ caseG₁ caseG₂ caseH caseI caseJ floorDiv near wordAt tabulate sum total sumAround eqZ every refuse _otherwise_ sizesOf differencesAt levelTapsAt decimationTapsAt bookLength impulseWord impulse difference levelTaps decimationTaps powerOfTwo sizesInRange wordsInRange coefficientsInRange differencesRight phaseSum tapSum sumsInRange bookNumber halfLength levelLength levelStart storeLength samplesInRange topInRange firstLevel levelSum levelWord nextLevel levelOf levelsOf storeNumber buildAnswer ofBits rateInRange rateOf askedLevel advance freshControl jumped gliding sought glideRate glideAfter moveGlide fadeTarget pointPlan fadeAfter movePoint moveOutput limit limitedWord storeLevel unit phaseAt offsetAt coefficient valueSum levelValue value point push pushTwo outputSum output nextVoice voiceAfter outputs glideCountWrong outputCountWrong positionWrong levelsWrong fadeWrong rateWrong glideWrong historyWrong lateNumber openNumber orderInputNumber orderNumber seekNumber playStateNumber playNumber zeroVoice freshVoice openAnswer ordered orderAnswer seekAnswer playAnswer
+unfolding starredCases caseA caseB caseC caseD caseE caseF₁ caseF₂ caseG₁ caseG₂ caseH caseI caseJ floorDiv near wordAt tabulate sum total sumAround eqZ every refuse _otherwise_ sizesOf differencesAt levelTapsAt decimationTapsAt bookLength impulseWord impulse difference levelTaps decimationTaps powerOfTwo sizesInRange wordsInRange coefficientsInRange differencesRight phaseSum tapSum sumsInRange bookNumber halfLength samplesInRange topInRange levelLength levelsBelow headerLength levelStart storeLength headerOf sampleCount topLevel storeLevel lengthsRight storeNumber firstLevel levelSum levelWord nextLevel levelOf levelsOf buildNumber builtStore buildAnswer ofBits rateInRange rateOf askedLevel advance freshControl jumped gliding sought glideRate glideAfter moveGlide fadeTarget pointPlan fadeAfter movePoint moveOutput limit limitedWord unit phaseAt offsetAt coefficient valueSum levelValue value point push pushTwo outputSum output nextVoice voiceAfter outputs glideCountWrong outputCountWrong positionWrong levelsWrong topWrong levelsNumber fadeWrong rateWrong glideWrong historyWrong lateNumber openNumber orderInputNumber orderNumber seekNumber playStateNumber playNumber zeroVoice freshVoice openAnswer ordered orderAnswer seekAnswer playAnswer
 starred = refl
 
 -- ---- a play of more outputs than a program here can lend: 1048577 is refused 11, after 17; 1048576 is accepted
@@ -161,12 +163,12 @@ unfoldable pub longPlays : Case
 longPlays =
     let v = opened rate1 0 .voice in
     let store = storeFor bookK (pos 0 ∷ pos 1000 ∷ pos 2000 ∷ []) 0 in
-    let number : List ℤ → ℕ → ℤ = λ history n. pos (playNumber bookK store 3 (v .control) pointBound history n) in
+    let number : List ℤ → ℕ → ℤ = λ history n. pos (playNumber bookK store (v .control) pointBound history n) in
     record {
       found = number (v .history) 1048577 ∷ number (pos 536870913 ∷ v .history) 1048577 ∷ number (v .history) 1048576 ∷ [];
       stated = pos 11 ∷ pos 17 ∷ pos 0 ∷ [];
     }
 
 pub long-plays : longPlays .found ≡ longPlays .stated
-unfolding longPlays floorDiv near wordAt tabulate sum total sumAround eqZ every refuse _otherwise_ sizesOf differencesAt levelTapsAt decimationTapsAt bookLength impulseWord impulse difference levelTaps decimationTaps powerOfTwo sizesInRange wordsInRange coefficientsInRange differencesRight phaseSum tapSum sumsInRange bookNumber halfLength levelLength levelStart storeLength samplesInRange topInRange firstLevel levelSum levelWord nextLevel levelOf levelsOf storeNumber buildAnswer ofBits rateInRange rateOf askedLevel advance freshControl jumped gliding sought glideRate glideAfter moveGlide fadeTarget pointPlan fadeAfter movePoint moveOutput limit limitedWord storeLevel unit phaseAt offsetAt coefficient valueSum levelValue value point push pushTwo outputSum output nextVoice voiceAfter outputs glideCountWrong outputCountWrong positionWrong levelsWrong fadeWrong rateWrong glideWrong historyWrong lateNumber openNumber orderInputNumber orderNumber seekNumber playStateNumber playNumber zeroVoice freshVoice openAnswer ordered orderAnswer seekAnswer playAnswer
+unfolding longPlays floorDiv near wordAt tabulate sum total sumAround eqZ every refuse _otherwise_ sizesOf differencesAt levelTapsAt decimationTapsAt bookLength impulseWord impulse difference levelTaps decimationTaps powerOfTwo sizesInRange wordsInRange coefficientsInRange differencesRight phaseSum tapSum sumsInRange bookNumber halfLength samplesInRange topInRange levelLength levelsBelow headerLength levelStart storeLength headerOf sampleCount topLevel storeLevel lengthsRight storeNumber firstLevel levelSum levelWord nextLevel levelOf levelsOf buildNumber builtStore buildAnswer ofBits rateInRange rateOf askedLevel advance freshControl jumped gliding sought glideRate glideAfter moveGlide fadeTarget pointPlan fadeAfter movePoint moveOutput limit limitedWord unit phaseAt offsetAt coefficient valueSum levelValue value point push pushTwo outputSum output nextVoice voiceAfter outputs glideCountWrong outputCountWrong positionWrong levelsWrong topWrong levelsNumber fadeWrong rateWrong glideWrong historyWrong lateNumber openNumber orderInputNumber orderNumber seekNumber playStateNumber playNumber zeroVoice freshVoice openAnswer ordered orderAnswer seekAnswer playAnswer
 long-plays = refl

@@ -1,5 +1,5 @@
--- The store of an accepted build has the form that demand 3 speaks of: it begins with the levels, and what lies behind them is as it was. Assumes
--- nothing.
+-- The store of an accepted build has the form that demand 3 speaks of: it begins with header and levels, and what lies behind them is as it was.
+-- Assumes nothing.
 use mathlib.Core.Path.{_≡_, ap}
 use mathlib.Core.List.{List, _++_}
 use Prim.Native.Nat.{_+_}
@@ -7,10 +7,9 @@ use native.Mathlib.Omega.{arith}
 use lib.IntN.{ℤ}
 use lib.ListN.{length, drop}
 use Rattle.book.specs.Book.{levelTaps}
-use Rattle.levels.specs.Sizes.{storeLength}
-use Rattle.levels.specs.Levels.{levelsOf}
-use Rattle.levels.specs.Build.{buildAnswer}
-use Rattle.levels.proofs.Laws.{length-levels}
+use Rattle.store.specs.Sizes.{storeLength}
+use Rattle.levels.specs.Build.{builtStore, buildAnswer}
+use Rattle.levels.proofs.Stores.{length-built}
 use Rattle.control.specs.declared.Card.{Card}
 use Rattle.drive.specs.Demand.{storeOf}
 
@@ -18,6 +17,6 @@ pub built-store : (b samples store : List ℤ) (card : Card) → buildAnswer b s
     → buildAnswer b samples (card .top) store .store ≡ storeOf b samples card (drop (storeLength (length samples) (card .top)) store)
 unfolding buildAnswer
 built-store b samples store card e =
-    let levels = levelsOf (levelTaps b) samples (card .top) in
-    let end : 0 + length levels ≡ storeLength (length samples) (card .top) = omega (arith, length-levels (levelTaps b) samples (card .top)) in
-    rw e (ap (λ n. levels ++ drop n store) end)
+    let words = builtStore (levelTaps b) samples (card .top) in
+    let end : 0 + length words ≡ storeLength (length samples) (card .top) = omega (arith, length-built (levelTaps b) samples (card .top)) in
+    rw e (ap (λ n. words ++ drop n store) end)

@@ -26,43 +26,43 @@ turn-away {n = n} x y h = rw (ne-eqb n 0 h)
 
 -- ---- the player
 
-module _ (b store : List ℤ) (S : ℕ) (v : Voice) where
+module _ (b store : List ℤ) (v : Voice) where
   -- a refused call leaves the voice, and hands out nothing
-  pub refused-voice : (c : Call) → (callNumber b store S v c ≡ 0 → ⊥) → callVoice b store S v c ≡ v
+  pub refused-voice : (c : Call) → (callNumber b store v c ≡ 0 → ⊥) → callVoice b store v c ≡ v
   unfolding callNumber callVoice orderAnswer seekAnswer playAnswer
   refused-voice (order o) h = turn-away _ v h
   refused-voice (seek P) h = turn-away _ v h
   refused-voice (play words) h = turn-away _ v h
 
-  pub refused-samples : (c : Call) → (callNumber b store S v c ≡ 0 → ⊥) → callSamples b store S v c ≡ []
+  pub refused-samples : (c : Call) → (callNumber b store v c ≡ 0 → ⊥) → callSamples b store v c ≡ []
   unfolding callNumber callSamples
   refused-samples (order o) h = refl
   refused-samples (seek P) h = refl
   refused-samples (play words) h = turn-away _ [] h
 
   -- an accepted play leaves the voice after its outputs, and hands these out
-  pub played-voice : (words : List ℤ) → callNumber b store S v (play words) ≡ 0 → callVoice b store S v (play words) ≡ voiceAfter b store S v (length words)
+  pub played-voice : (words : List ℤ) → callNumber b store v (play words) ≡ 0 → callVoice b store v (play words) ≡ voiceAfter b store v (length words)
   unfolding callNumber callVoice playAnswer
   played-voice words h = accept _ v h
 
-  pub played-samples : (words : List ℤ) → callNumber b store S v (play words) ≡ 0 → callSamples b store S v (play words) ≡ outputs b store S v (length words)
+  pub played-samples : (words : List ℤ) → callNumber b store v (play words) ≡ 0 → callSamples b store v (play words) ≡ outputs b store v (length words)
   unfolding callNumber callSamples playAnswer
   played-samples words h = rw h
 
   -- an accepted order or seek changes the control, and hands out nothing
-  pub ordered-voice : (o : Order) → orderAnswer v o .number ≡ 0 → callVoice b store S v (order o) ≡ record { control = ordered (v .control) o; history = v .history }
+  pub ordered-voice : (o : Order) → orderAnswer v o .number ≡ 0 → callVoice b store v (order o) ≡ record { control = ordered (v .control) o; history = v .history }
   unfolding callVoice orderAnswer
   ordered-voice o h = accept _ v h
 
-  pub sought-voice : (P : ℕ) → seekAnswer v P .number ≡ 0 → callVoice b store S v (seek P) ≡ record { control = sought (v .control) P; history = v .history }
+  pub sought-voice : (P : ℕ) → seekAnswer v P .number ≡ 0 → callVoice b store v (seek P) ≡ record { control = sought (v .control) P; history = v .history }
   unfolding callVoice seekAnswer
   sought-voice P h = accept _ v h
 
-  pub ordered-samples : (o : Order) → callSamples b store S v (order o) ≡ []
+  pub ordered-samples : (o : Order) → callSamples b store v (order o) ≡ []
   unfolding callSamples
   ordered-samples o = refl
 
-  pub sought-samples : (P : ℕ) → callSamples b store S v (seek P) ≡ []
+  pub sought-samples : (P : ℕ) → callSamples b store v (seek P) ≡ []
   unfolding callSamples
   sought-samples P = refl
 

@@ -61,32 +61,32 @@ exactWord b samples l = wordAt (exactLevel (levelTaps b) samples l)
 abbrev exactSum : List ℤ → List ℤ → ℕ → ℕ → ℤ
 exactSum b samples l P = valueSum b (exactWord b samples l) l P
 
-module _ (b samples store : List ℤ) (S T : ℕ) (top : T ≤ 4)
+module _ (b samples store : List ℤ) (T : ℕ) (top : T ≤ 4)
     (sum-apart : (c d : ℤ) (w w′ : ℤ → ℤ) (X l P : ℕ) → ((i : ℤ) → natAbs (c *ℤ w i -ℤ d *ℤ w′ i) ≤ X)
     → natAbs (c *ℤ valueSum b w l P -ℤ d *ℤ valueSum b w′ l P) ≤ 65536 * unit l * X)
     (words-close : (l : ℕ) → l ≤ T → (i : ℤ)
-    → 2 * natAbs (pos (2 ^ (14 * l)) *ℤ limitedWord (storeLevel store S l) l i -ℤ pos 256 *ℤ wordAt (exactLevel (levelTaps b) samples l) i) ≤ 2 ^ (14 * l) * (2 ^ l - 1)) where
+    → 2 * natAbs (pos (2 ^ (14 * l)) *ℤ limitedWord (storeLevel store l) l i -ℤ pos 256 *ℤ wordAt (exactLevel (levelTaps b) samples l) i) ≤ 2 ^ (14 * l) * (2 ^ l - 1)) where
   -- a value's sum: four times the words' distance
   value-sum-close : (l P : ℕ) → l ≤ T
-      → 2 * natAbs (pos (2 ^ (14 * l)) *ℤ valueSum b (limitedWord (storeLevel store S l) l) l P -ℤ pos 256 *ℤ exactSum b samples l P) ≤ 2 ^ (14 * l) * (16384 * unit l) * (4 * (2 ^ l - 1))
+      → 2 * natAbs (pos (2 ^ (14 * l)) *ℤ valueSum b (limitedWord (storeLevel store l) l) l P -ℤ pos 256 *ℤ exactSum b samples l P) ≤ 2 ^ (14 * l) * (16384 * unit l) * (4 * (2 ^ l - 1))
   value-sum-close l P below =
       let u = 2 ^ (14 * l) in
       let X = u * (2 ^ l - 1) in
-      let w = limitedWord (storeLevel store S l) l in
+      let w = limitedWord (storeLevel store l) l in
       let w′ = exactWord b samples l in
       let each : (i : ℤ) → natAbs (pos (2 * u) *ℤ w i -ℤ pos 512 *ℤ w′ i) ≤ X = λ i. omega (arith, apart-times 2 u 256 (w i) (w′ i), words-close l below i) in
       omega (arith, apart-times 2 u 256 (valueSum b w l P) (valueSum b w′ l P), sum-apart (pos (2 * u)) (pos 512) w w′ X l P each)
 
   -- a value, at its level's own scale
   level-value-close : (l P : ℕ) → l ≤ T
-      → 2 * natAbs (pos (2 ^ (15 * l + 34)) *ℤ value b store S l P -ℤ exactSum b samples l P) ≤ 2 ^ (15 * l + 34) * (2 ^ (l + 2) - 3)
+      → 2 * natAbs (pos (2 ^ (15 * l + 34)) *ℤ value b store l P -ℤ exactSum b samples l P) ≤ 2 ^ (15 * l + 34) * (2 ^ (l + 2) - 3)
   unfolding value levelValue
   level-value-close l P below =
       let s = 2 ^ (15 * l + 34) in
       let X = 4 * (2 ^ l - 1) in
       let D = 16384 * unit l in
       let u = 2 ^ (14 * l) in
-      let A = valueSum b (limitedWord (storeLevel store S l) l) l P in
+      let A = valueSum b (limitedWord (storeLevel store l) l) l P in
       let E = exactSum b samples l P in
       let rounded = near-apart u D A (pos 256 *ℤ E) (u * D * X) (unit-pos l) (value-sum-close l P below) in
       let scaled : 2 * natAbs (pos (256 * s) *ℤ near A D -ℤ pos 256 *ℤ E) ≤ 256 * s + 256 * s * X = rw (value-scale l) at rounded in
@@ -94,23 +94,23 @@ module _ (b samples store : List ℤ) (S T : ℕ) (top : T ≤ 4)
 
   -- a value, at the common scale
   pub value-close : (l P : ℕ) → l ≤ T
-      → 2 * natAbs (pos (2 ^ (14 * T + 38)) *ℤ value b store S l P -ℤ exactValue b samples T l P) ≤ 2 ^ (14 * T + 38) * (2 ^ (T + 2) - 3)
+      → 2 * natAbs (pos (2 ^ (14 * T + 38)) *ℤ value b store l P -ℤ exactValue b samples T l P) ≤ 2 ^ (14 * T + 38) * (2 ^ (T + 2) - 3)
   unfolding exactValue
   value-close l P below =
       let k = 2 ^ (14 * (T - l) + (4 - l)) in
       let s = 2 ^ (15 * l + 34) in
       let Z = 2 ^ (T + 2) - 3 in
       let no-more : 2 ^ (l + 2) - 3 ≤ Z = omega (arith, pow-mono {i = l + 2} {j = T + 2} (omega arith)) in
-      let close : 2 * natAbs (pos s *ℤ value b store S l P -ℤ exactSum b samples l P) ≤ s * Z = le-trans (level-value-close l P below) (mul-le-mul-left s no-more) in
-      rw (← common-scale T l below top) (omega (arith, apart-multiple k s (value b store S l P) (exactSum b samples l P), mul-le-mul-left k close))
+      let close : 2 * natAbs (pos s *ℤ value b store l P -ℤ exactSum b samples l P) ≤ s * Z = le-trans (level-value-close l P below) (mul-le-mul-left s no-more) in
+      rw (← common-scale T l below top) (omega (arith, apart-multiple k s (value b store l P) (exactSum b samples l P), mul-le-mul-left k close))
 
   -- a point: a value, or a mean of two values that is rounded once more
   pub point-close : 1 ≤ sizesOf b .fade → (p : Plan) → p .old ≤ T → p .new ≤ T → p .step ≤ sizesOf b .fade
-      → 2 * natAbs (pos (pointScale b T) *ℤ point b store S p -ℤ exactPoint b samples T p) ≤ pointScale b T * (2 ^ (T + 2) - 2)
+      → 2 * natAbs (pos (pointScale b T) *ℤ point b store p -ℤ exactPoint b samples T p) ≤ pointScale b T * (2 ^ (T + 2) - 2)
   unfolding point exactPoint pointScale
   point-close some p from to inside =
       let P = p .position in
-      let value-at : ℕ → ℤ = λ l. value b store S l P in
+      let value-at : ℕ → ℤ = λ l. value b store l P in
       let exact-at : ℕ → ℤ = λ l. exactValue b samples T l P in
       let Z = 2 ^ (T + 2) - 3 in
       let two-roundings : 1 + Z ≡ 2 ^ (T + 2) - 2 = omega (arith, pow-add 2 T 2, pow-pos T) in

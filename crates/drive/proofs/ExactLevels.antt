@@ -19,7 +19,7 @@ use Rattle.arith.proofs.Lists.{at-outside, wordAt-bound, length-tabulate, getD-
 use Rattle.arith.proofs.Sum.{sumAround-ext, sumAround-abs-*, sumAround-linear}
 use Rattle.book.specs.Check.{tapSum}
 use Rattle.octave.specs.Octave.{halfLength, levelSum, levelWord}
-use Rattle.levels.specs.Sizes.{levelLength}
+use Rattle.store.specs.Sizes.{levelLength}
 use Rattle.levels.specs.Levels.{levelOf}
 use Rattle.levels.proofs.Laws.{length-level, at-first}
 use Rattle.octave.proofs.Octave.{at-next}

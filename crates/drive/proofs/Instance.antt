@@ -15,20 +15,22 @@ use Rattle.book.specs.Number.{refuse, _otherwise_}
 use Rattle.book.specs.Book.{sizesOf, differencesAt, levelTapsAt, decimationTapsAt, bookLength, impulseWord, impulse, difference, levelTaps, decimationTaps}
 use Rattle.book.specs.Check.{powerOfTwo, sizesInRange, wordsInRange, coefficientsInRange, differencesRight, phaseSum, tapSum, sumsInRange, bookNumber}
 use Rattle.octave.specs.Octave.{halfLength, levelSum, levelWord, nextLevel}
-use Rattle.levels.specs.Sizes.{levelLength, levelStart, storeLength, samplesInRange, topInRange}
+use Rattle.store.specs.Sizes.{samplesInRange, topInRange, levelLength, levelsBelow, headerLength, levelStart, storeLength}
+use Rattle.store.specs.Store.{headerOf, sampleCount, topLevel, storeLevel}
+use Rattle.store.specs.Check.{lengthsRight, storeNumber}
 use Rattle.levels.specs.Levels.{firstLevel, levelOf, levelsOf}
-use Rattle.levels.specs.Build.{storeNumber}
+use Rattle.levels.specs.Build.{builtStore}
 use Rattle.control.specs.declared.Card.{Card}
 use Rattle.control.specs.declared.Order.the-variants.{Jump}
 use Rattle.control.specs.Rate.{rateInRange, rateOf, askedLevel, advance}
 use Rattle.control.specs.Moves.{freshControl, jumped, sought, glideAfter, moveGlide, fadeTarget, pointPlan, fadeAfter, movePoint, moveOutput}
 use Rattle.control.specs.Orders.{ordered}
 use Rattle.arith.specs.Limit.{limit}
-use Rattle.values.specs.Values.{limitedWord, storeLevel, unit, phaseAt, offsetAt, coefficient, valueSum, levelValue, value}
+use Rattle.values.specs.Values.{limitedWord, unit, phaseAt, offsetAt, coefficient, valueSum, levelValue, value}
 use Rattle.points.specs.Points.{point}
 use Rattle.player.specs.Outputs.{push, pushTwo, nextVoice, voiceAfter, outputs}
 use Rattle.decimation.specs.Decimation.{outputSum, output}
-use Rattle.refusals.specs.Refusals.{outputCountWrong, positionWrong, levelsWrong, fadeWrong, rateWrong, glideWrong, historyWrong, lateNumber, openNumber, orderInputNumber, orderNumber, seekNumber, playStateNumber, playNumber}
+use Rattle.refusals.specs.Refusals.{outputCountWrong, positionWrong, levelsWrong, topWrong, levelsNumber, fadeWrong, rateWrong, glideWrong, historyWrong, lateNumber, openNumber, orderInputNumber, orderNumber, seekNumber, playStateNumber, playNumber}
 use Rattle.player.specs.Calls.{zeroVoice, freshVoice, openAnswer, orderAnswer, seekAnswer, playAnswer}
 use Rattle.drive.specs.Exact.{exactScale, exactFresh}
 use Rattle.drive.specs.Lists.{Call, order, seek, play, callVoice, callSamples, handedOut, exactSums}
@@ -44,7 +46,7 @@ recording = pos 0 ∷ pos 1000 ∷ pos 2000 ∷ []
 abbrev pub card : Card
 card = record { rate = ofBits binary32 0x3f80_0000; top = 0 }
 
--- three words after the levels
+-- three words after header and levels
 abbrev pub store : List ℤ
 store = storeOf book recording card (pos 9 ∷ negsuc 8 ∷ pos 9 ∷ [])
 
@@ -64,10 +66,10 @@ unfolding eqZ every total refuse _otherwise_ sizesOf differencesAt levelTapsAt d
 setting = record { book-accepted = refl; samples-counted = refl; samples-16-bit = sample-fits; opening-accepted = refl }
 
 -- the conclusion for this list
-pub conclusion : Close 0 (exactScale book 0) (handedOut book store 3 (openAnswer card .voice) calls) (exactSums book recording 0 (exactFresh card) calls)
+pub conclusion : Close 0 (exactScale book 0) (handedOut book store (openAnswer card .voice) calls) (exactSums book recording 0 (exactFresh card) calls)
 conclusion = demand3 book recording (pos 9 ∷ negsuc 8 ∷ pos 9 ∷ []) card setting .0 calls
 
 -- and the samples that it speaks of
-pub handed-out : handedOut book store 3 (openAnswer card .voice) calls ≡ pos 500 ∷ pos 1500 ∷ pos 1000 ∷ pos 0 ∷ pos 500 ∷ []
-unfolding floorDiv near wordAt tabulate sum total sumAround eqZ every refuse _otherwise_ sizesOf differencesAt levelTapsAt decimationTapsAt bookLength impulseWord impulse difference levelTaps decimationTaps powerOfTwo sizesInRange wordsInRange coefficientsInRange differencesRight phaseSum tapSum sumsInRange bookNumber halfLength levelLength levelStart storeLength samplesInRange topInRange firstLevel levelSum levelWord nextLevel levelOf levelsOf storeNumber ofBits rateInRange rateOf askedLevel advance freshControl jumped sought glideAfter moveGlide fadeTarget pointPlan fadeAfter movePoint moveOutput limit limitedWord storeLevel unit phaseAt offsetAt coefficient valueSum levelValue value point push pushTwo outputSum output nextVoice voiceAfter outputs outputCountWrong positionWrong levelsWrong fadeWrong rateWrong glideWrong historyWrong lateNumber openNumber orderInputNumber orderNumber seekNumber playStateNumber playNumber zeroVoice freshVoice openAnswer ordered orderAnswer seekAnswer playAnswer callVoice callSamples handedOut
+pub handed-out : handedOut book store (openAnswer card .voice) calls ≡ pos 500 ∷ pos 1500 ∷ pos 1000 ∷ pos 0 ∷ pos 500 ∷ []
+unfolding floorDiv near wordAt tabulate sum total sumAround eqZ every refuse _otherwise_ sizesOf differencesAt levelTapsAt decimationTapsAt bookLength impulseWord impulse difference levelTaps decimationTaps powerOfTwo sizesInRange wordsInRange coefficientsInRange differencesRight phaseSum tapSum sumsInRange bookNumber halfLength samplesInRange topInRange levelLength levelsBelow headerLength levelStart storeLength headerOf sampleCount topLevel storeLevel lengthsRight storeNumber firstLevel levelSum levelWord nextLevel levelOf levelsOf builtStore ofBits rateInRange rateOf askedLevel advance freshControl jumped sought glideAfter moveGlide fadeTarget pointPlan fadeAfter movePoint moveOutput limit limitedWord unit phaseAt offsetAt coefficient valueSum levelValue value point push pushTwo outputSum output nextVoice voiceAfter outputs outputCountWrong positionWrong levelsWrong topWrong levelsNumber fadeWrong rateWrong glideWrong historyWrong lateNumber openNumber orderInputNumber orderNumber seekNumber playStateNumber playNumber zeroVoice freshVoice openAnswer ordered orderAnswer seekAnswer playAnswer callVoice callSamples handedOut
 handed-out = refl

@@ -1,13 +1,12 @@
 -- The two players side by side: what relates their states over a whole list. Assumes nothing.
 use mathlib.Core.List.{List}
-use mathlib.Core.Path.{_≡_, refl, sym, ap, _∙_}
+use mathlib.Core.Path.{_≡_, refl, sym, ap, ap₂, _∙_}
 use Prim.Native.Nat.{ℕ, _+_, _-_, _*_, _^_, _≤_, _<_}
 use native.Mathlib.Nat.{le-trans, mul-pos, mul-le-mul-left}
 use native.Mathlib.Decide.{decLt}
 use native.Mathlib.Omega.{arith}
-use borrow.Author.Tests.{le-leb, le-ltb}
 use lib.IntN.{ℤ, pos, negsuc, negℤ, natAbs, _-ℤ_, _*ℤ_}
-use lib.ListN.{length, length-append, getD-replicate}
+use lib.ListN.{length, getD-replicate}
 use lib.Pow.{pow-pos}
 use lib.Signed.{leZ-yes}
 use Rattle.arith.specs.Floor.{near}
@@ -16,22 +15,24 @@ use Rattle.arith.proofs.Linear.{linear}
 use Rattle.arith.proofs.Integers.{*ℤ-≤ℤ-pos}
 use Rattle.arith.proofs.Lists.{at-outside, wordAt-bound}
 use Rattle.arith.proofs.Tests.{within-half}
-use Rattle.book.specs.Number.{refuse, _otherwise_}
+use Rattle.book.specs.Number.{_otherwise_}
 use Rattle.book.specs.Book.{sizesOf, levelTaps}
 use Rattle.book.specs.Check.{tapSum}
 use Rattle.book.proofs.Numbers.{zero-otherwise}
 use Rattle.book.proofs.Accepted.{Accepted, accepted, sizes-bounded, levelTaps-sum}
-use Rattle.levels.specs.Sizes.{storeLength, topInRange}
-use Rattle.levels.specs.Levels.{levelOf, levelsOf}
-use Rattle.levels.specs.Build.{storeNumber}
-use Rattle.levels.proofs.Laws.{length-levels, level-bound, level-begins}
+use Rattle.store.specs.Store.{topLevel, storeLevel}
+use Rattle.store.specs.Check.{storeNumber}
+use Rattle.store.proofs.Ranges.{top-inside}
+use Rattle.levels.specs.Levels.{levelOf}
+use Rattle.levels.proofs.Laws.{level-bound}
+use Rattle.levels.proofs.Stores.{built-top, built-accepted, built-level}
 use Rattle.control.specs.declared.Card.{Card}
 use Rattle.control.specs.declared.Control.{Control}
 use Rattle.player.specs.declared.Voice.{Voice}
 use Rattle.control.specs.Moves.{freshControl, sought, moveGlide, pointPlan, movePoint, moveOutput}
 use Rattle.control.specs.Orders.{ordered}
 use Rattle.arith.specs.Limit.{limit}
-use Rattle.values.specs.Values.{limitedWord, storeLevel}
+use Rattle.values.specs.Values.{limitedWord}
 use Rattle.points.specs.Points.{point}
 use Rattle.player.specs.Outputs.{pushTwo, nextVoice}
 use Rattle.decimation.specs.Decimation.{outputSum, output}
@@ -62,9 +63,6 @@ module _ (b samples rest : List ℤ) (card : Card) (setting : Setting b samples 
   abbrev pub T : ℕ
   T = card .top
 
-  abbrev pub S : ℕ
-  S = length samples
-
   abbrev pub F : ℕ
   F = sizesOf b .fade
 
@@ -90,26 +88,26 @@ module _ (b samples rest : List ℤ) (card : Card) (setting : Setting b samples 
 
   -- ---- the store's words are the built ones: each level begins where it should, and the limit on reading does nothing to it
 
-  built-word : (l : ℕ) → l ≤ T → (i : ℤ) → limitedWord (storeLevel store S l) l i ≡ wordAt (levelOf (levelTaps b) samples l) i
-  unfolding limitedWord storeLevel
+  built-word : (l : ℕ) → l ≤ T → (i : ℤ) → limitedWord (storeLevel store l) l i ≡ wordAt (levelOf (levelTaps b) samples l) i
+  unfolding limitedWord
   built-word l h i =
       let level = levelOf (levelTaps b) samples l in
-      let begins = level-begins (levelTaps b) samples rest T l h in
+      let begins = built-level (levelTaps b) samples T rest l h in
       ap (λ words. limit (negℤ (pos (2 ^ (23 + l)))) (pos (2 ^ (23 + l))) (wordAt words i)) begins
       ∙ limit-inside (2 ^ (23 + l)) (wordAt level i) (wordAt-bound level (2 ^ (23 + l)) (level-bound (levelTaps b) samples taps-small samples-small l) i)
 
-  words-close : (l : ℕ) → l ≤ T → (i : ℤ) → 2 * natAbs (pos (2 ^ (14 * l)) *ℤ limitedWord (storeLevel store S l) l i -ℤ pos 256 *ℤ wordAt (exactLevel (levelTaps b) samples l) i) ≤ 2 ^ (14 * l) * (2 ^ l - 1)
+  words-close : (l : ℕ) → l ≤ T → (i : ℤ) → 2 * natAbs (pos (2 ^ (14 * l)) *ℤ limitedWord (storeLevel store l) l i -ℤ pos 256 *ℤ wordAt (exactLevel (levelTaps b) samples l) i) ≤ 2 ^ (14 * l) * (2 ^ l - 1)
   words-close l h i = rw (built-word l h i) (word-close (levelTaps b) samples taps-small l i)
 
   words-small : (l : ℕ) → l ≤ T → (i : ℤ) → natAbs (wordAt (exactLevel (levelTaps b) samples l) i) ≤ 2 ^ (15 + 15 * l)
   words-small l h i = exact-word-bound (levelTaps b) samples taps-small samples-small l i
 
-  -- numbers 1 to 9 are never given
-  pub store-fits : storeNumber b S T (length store) ≡ 0
-  unfolding storeNumber refuse _otherwise_ topInRange
-  store-fits =
-      let long : storeLength S T ≤ length store = omega (arith, length-append (levelsOf (levelTaps b) samples T) rest, length-levels (levelTaps b) samples T) in
-      simp (setting .book-accepted, setting .samples-counted, le-leb T 4 top-high, le-ltb (length store) (storeLength S T) long)
+  -- the store's numbers are never given, and its T is the card's
+  pub store-accepted : storeNumber store ≡ 0
+  store-accepted = built-accepted (levelTaps b) samples T rest (setting .samples-counted) (top-inside T top-high)
+
+  pub store-top : topLevel store ≡ T
+  store-top = built-top (levelTaps b) samples T rest
 
   -- ---- the relation
 
@@ -146,20 +144,20 @@ module _ (b samples rest : List ℤ) (card : Card) (setting : Setting b samples 
 
   -- the two plans of an output read levels up to T, at a weight up to F
   module _ (c : Control) (s : Valid F c) (t : c .top ≡ T) where
-    plan-close : 2 * natAbs (pos (pointScale b T) *ℤ point b store S (pointPlan c) -ℤ exactPoint b samples T (pointPlan c)) ≤ pointScale b T * (2 ^ (T + 2) - 2)
+    plan-close : 2 * natAbs (pos (pointScale b T) *ℤ point b store (pointPlan c) -ℤ exactPoint b samples T (pointPlan c)) ≤ pointScale b T * (2 ^ (T + 2) - 2)
     plan-close =
-        point-close b samples store S T top-high (valueSum-apart b right) words-close fade-low (pointPlan c)
+        point-close b samples store T top-high (valueSum-apart b right) words-close fade-low (pointPlan c)
         (omega (arith, plan-old s)) (omega (arith, plan-new s)) (plan-step s)
 
-    plan-bound : natAbs (point b store S (pointPlan c)) ≤ pointBound
-    plan-bound = point-bound b right store S (pointPlan c) (omega (arith, plan-old s, top-high)) (omega (arith, plan-new s, top-high)) (plan-step s)
+    plan-bound : natAbs (point b store (pointPlan c)) ≤ pointBound
+    plan-bound = point-bound b right store (pointPlan c) (omega (arith, plan-old s, top-high)) (omega (arith, plan-new s, top-high)) (plan-step s)
 
     plan-exact-bound : natAbs (exactPoint b samples T (pointPlan c)) ≤ exactBound b samples T
     unfolding exactBound
     plan-exact-bound = exactPoint-bound b samples T top-high (valueSum-bound b right) words-small (pointPlan c) (omega (arith, plan-old s)) (omega (arith, plan-new s)) (plan-step s)
 
   -- one output keeps the relation
-  pub step : (v : Voice) (e : ExactVoice) → Related v e → Related (nextVoice b store S v) (exactNext b samples T e)
+  pub step : (v : Voice) (e : ExactVoice) → Related v e → Related (nextVoice b store v) (exactNext b samples T e)
   unfolding nextVoice exactNext
   step v e r =
       let c = v .control in
@@ -174,9 +172,9 @@ module _ (b samples rest : List ℤ) (card : Card) (setting : Setting b samples 
         same = ap (moveOutput F) (r .same);
         valid = moveOutput-valid (r .valid);
         top = moveOutput-top F c ∙ r .top;
-        bounded = pushTwo-all (λ x. natAbs x ≤ pointBound) (point b store S) F c (v .history) (omega arith) (plan-bound c₁ s₁ t₁) (plan-bound c₂ s₂ t₂) (r .bounded);
+        bounded = pushTwo-all (λ x. natAbs x ≤ pointBound) (point b store) F c (v .history) (omega arith) (plan-bound c₁ s₁ t₁) (plan-bound c₂ s₂ t₂) (r .bounded);
         exact-bounded = rw (← exact-history) (pushTwo-all (λ x. natAbs x ≤ exactBound b samples T) (exactPoint b samples T) F c (e .points) (omega arith) (plan-exact-bound c₁ s₁ t₁) (plan-exact-bound c₂ s₂ t₂) (r .exact-bounded));
-        close = rw (← exact-history) (pushTwo-both (PointClose T (pointScale b T)) (point b store S) (exactPoint b samples T) F c (v .history) (e .points) zero-close (plan-close c₁ s₁ t₁) (plan-close c₂ s₂ t₂) (r .close));
+        close = rw (← exact-history) (pushTwo-both (PointClose T (pointScale b T)) (point b store) (exactPoint b samples T) F c (v .history) (e .points) zero-close (plan-close c₁ s₁ t₁) (plan-close c₂ s₂ t₂) (r .close));
       }
 
   scale-pos : 0 < exactScale b T
@@ -200,7 +198,7 @@ module _ (b samples rest : List ℤ) (card : Card) (setting : Setting b samples 
   -- ---- a call
 
   -- the numbers of related states are the same: past the state's own, which none gives, they look at the arguments and T alone
-  pub number-same : (v : Voice) (e : ExactVoice) (c : Call) → Related v e → callNumber b store S v c ≡ exactCallNumber b samples T e c
+  pub number-same : (v : Voice) (e : ExactVoice) (c : Call) → Related v e → callNumber b store v c ≡ exactCallNumber b samples T e c
   unfolding callNumber exactCallNumber orderAnswer seekAnswer playAnswer playNumber
   number-same v e (order o) r =
       let here = order-number (r .valid) pointBound (v .history) (λ k h. r .bounded k) o in
@@ -212,11 +210,12 @@ module _ (b samples rest : List ℤ) (card : Card) (setting : Setting b samples 
       here ∙ sym there ∙ ap (λ c. seekNumber c (exactBound b samples T) (e .points) P) (r .same)
   number-same v e (play words) r =
       let n = length words in
-      let fits : storeNumber b S (v .control .top) (length store) ≡ 0 = ap (λ t. storeNumber b S t (length store)) (r .top) ∙ store-fits in
-      let here = play-number (r .valid) pointBound (v .history) (λ k h. r .bounded k) n in
-      let there = play-number (r .valid) (exactBound b samples T) (e .points) (λ k h. r .exact-bounded k) n in
-      ap (λ m. m otherwise playStateNumber F (v .control) pointBound (v .history) n) fits ∙ zero-otherwise (playStateNumber F (v .control) pointBound (v .history) n)
-      ∙ here ∙ sym there ∙ ap (λ c. playStateNumber F c (exactBound b samples T) (e .points) n) (r .same)
+      let state : ℕ → ℕ = λ top. playStateNumber F top (v .control) pointBound (v .history) n in
+      let here = play-number (r .valid) pointBound (v .history) (λ k h. r .bounded k) T n (r .top) in
+      let there = play-number (r .valid) (exactBound b samples T) (e .points) (λ k h. r .exact-bounded k) T n (r .top) in
+      ap₂ (λ m k. m otherwise k otherwise state (topLevel store)) (setting .book-accepted) store-accepted
+      ∙ zero-otherwise (0 otherwise state (topLevel store)) ∙ zero-otherwise (state (topLevel store)) ∙ ap state store-top
+      ∙ here ∙ sym there ∙ ap (λ c. playStateNumber F T c (exactBound b samples T) (e .points) n) (r .same)
 
   pub order-kept : (v : Voice) (e : ExactVoice) (o : Order) → Related v e → orderAnswer v o .number ≡ 0
       → Related (record { control = ordered (v .control) o; history = v .history }) (record { control = ordered (e .control) o; points = e .points })

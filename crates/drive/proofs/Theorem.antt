@@ -1,6 +1,5 @@
 -- Demand 3, whole. Assumes nothing.
 use mathlib.Core.List.{List}
-use lib.ListN.{length}
 use lib.IntN.{ℤ}
 use Rattle.control.specs.declared.Card.{Card}
 use Rattle.player.specs.Calls.{openAnswer}
@@ -13,7 +12,7 @@ use Rattle.drive.proofs.Closeness.{Steps, all-close}
 
 -- the relation is kept by every call, and its outputs are close
 steps : (b samples rest : List ℤ) (card : Card) (s : Setting b samples card)
-    → Steps b samples (storeOf b samples card rest) (length samples) (card .top) (exactScale b (card .top)) (Related b samples rest card s)
+    → Steps b samples (storeOf b samples card rest) (card .top) (exactScale b (card .top)) (Related b samples rest card s)
 steps b samples rest card s = record {
   number-same = number-same b samples rest card s;
   order-kept = order-kept b samples rest card s;
@@ -27,5 +26,5 @@ demand3 b samples rest card s =
     let v = openAnswer card .voice in
     let start : Related b samples rest card s v (exactFresh card) = rw (open-accepted card (s .opening-accepted)) (fresh b samples rest card s) in (
       λ calls. all-close (steps b samples rest card s) v (exactFresh card) calls start,
-      same-cuts b (storeOf b samples card rest) (length samples) v,
+      same-cuts b (storeOf b samples card rest) v,
     )

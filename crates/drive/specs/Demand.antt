@@ -9,8 +9,8 @@ use Rattle.arith.specs.Lists.{at}
 use Rattle.arith.specs.Tests.{within}
 use Rattle.book.specs.Book.{levelTaps}
 use Rattle.book.specs.Check.{bookNumber}
-use Rattle.levels.specs.Sizes.{samplesInRange}
-use Rattle.levels.specs.Levels.{levelsOf}
+use Rattle.store.specs.Sizes.{samplesInRange}
+use Rattle.levels.specs.Build.{builtStore}
 use Rattle.control.specs.declared.Card.{Card}
 use Rattle.refusals.specs.Refusals.{openNumber}
 use Rattle.player.specs.Calls.{openAnswer}
@@ -20,13 +20,13 @@ use Rattle.drive.specs.Lists.{Call, endVoice, handedOut, exactSums, mark
 -- one accepted book, one recording of 16-bit samples with S in range, and an accepted opening
 pub record Setting (b samples : List ℤ) (card : Card) : Type 0 where
   pub book-accepted : bookNumber b ≡ 0
-  pub samples-counted : samplesInRange (length samples) ≡ true
+  pub samples-counted : samplesInRange (pos (length samples)) ≡ true
   pub samples-16-bit : (k : ℕ) → within (negsuc 32767) (pos 32767) (at samples k) ≡ true
   pub opening-accepted : openNumber card ≡ 0
 
--- the store begins with the levels built from book and recording for the card's T; the words after them are anything
+-- the store begins with the header and the levels built from book and recording for the card's T; the words after them are anything
 abbrev pub storeOf : List ℤ → List ℤ → Card → List ℤ → List ℤ
-storeOf b samples card rest = levelsOf (levelTaps b) samples (card .top) ++ rest
+storeOf b samples card rest = builtStore (levelTaps b) samples (card .top) ++ rest
 
 -- the distance that is allowed, in 1/256 of one 16-bit step
 abbrev pub allowed : ℕ → ℕ
@@ -48,11 +48,10 @@ Demand3 =
     (b samples rest : List ℤ) (card : Card)
     → Setting b samples card
     → let store = storeOf b samples card rest in
-    let S = length samples in
     let T = card .top in
     let v = openAnswer card .voice in
-    ((calls : List Call) → Close T (exactScale b T) (handedOut b store S v calls) (exactSums b samples T (exactFresh card) calls))
+    ((calls : List Call) → Close T (exactScale b T) (handedOut b store v calls) (exactSums b samples T (exactFresh card) calls))
     × ((calls calls′ : List Call)
-    → marks b store S v 0 calls ≡ marks b store S v 0 calls′
-    → length (handedOut b store S v calls) ≡ length (handedOut b store S v calls′)
-    → (handedOut b store S v calls ≡ handedOut b store S v calls′) × (endVoice b store S v calls ≡ endVoice b store S v calls′))
+    → marks b store v 0 calls ≡ marks b store v 0 calls′
+    → length (handedOut b store v calls) ≡ length (handedOut b store v calls′)
+    → (handedOut b store v calls ≡ handedOut b store v calls′) × (endVoice b store v calls ≡ endVoice b store v calls′))

@@ -21,26 +21,26 @@ pub data Call : Type 0 where
   seek : ℕ → Call
   play : List ℤ → Call
 
--- ---- the player: each play is lent book b and the store, and told S
+-- ---- the player: each play is lent book b and the store
 
-module _ (b store : List ℤ) (S : ℕ) where
+module _ (b store : List ℤ) where
   -- the number that a call returns
   unfoldable pub callNumber : Voice → Call → ℕ
   callNumber v (order o) = orderAnswer v o .number
   callNumber v (seek P) = seekAnswer v P .number
-  callNumber v (play words) = playAnswer b store S v words .number
+  callNumber v (play words) = playAnswer b store v words .number
 
   -- the voice that it returns
   unfoldable pub callVoice : Voice → Call → Voice
   callVoice v (order o) = orderAnswer v o .voice
   callVoice v (seek P) = seekAnswer v P .voice
-  callVoice v (play words) = playAnswer b store S v words .voice
+  callVoice v (play words) = playAnswer b store v words .voice
 
   -- the samples that it hands out: an accepted play's words
   unfoldable pub callSamples : Voice → Call → List ℤ
   callSamples v (order o) = []
   callSamples v (seek P) = []
-  callSamples v (play words) = let a = playAnswer b store S v words in cond (eqb (a .number) 0) (a .words) []
+  callSamples v (play words) = let a = playAnswer b store v words in cond (eqb (a .number) 0) (a .words) []
 
   -- the voice at the end of a list
   unfoldable pub endVoice : Voice → List Call → Voice
@@ -53,8 +53,8 @@ module _ (b store : List ℤ) (S : ℕ) where
   handedOut v (c ∷ calls) = callSamples v c ++ handedOut (callVoice v c) calls
 
 -- ---- the exact player: fed the book, the recording and the same calls. Where a number turns a call away, by its arguments and this
--- state, nothing changes. Numbers 1 to 9 are about book, recording and store, which a list keeps and of which none holds, so play looks
--- at 13 to 17 and 11.
+-- state, nothing changes. Numbers 1 to 9 and 18 are about book, recording and store, which a list keeps and of which none holds, so play looks
+-- at 13, 19, with the store's T, 14 to 17 and 11.
 
 module _ (b samples : List ℤ) (T : ℕ) where
   -- ±2^29, over the points' scale
@@ -64,7 +64,7 @@ module _ (b samples : List ℤ) (T : ℕ) where
   unfoldable pub exactCallNumber : ExactVoice → Call → ℕ
   exactCallNumber e (order o) = orderNumber (e .control) exactBound (e .points) o
   exactCallNumber e (seek P) = seekNumber (e .control) exactBound (e .points) P
-  exactCallNumber e (play words) = playStateNumber (sizesOf b .fade) (e .control) exactBound (e .points) (length words)
+  exactCallNumber e (play words) = playStateNumber (sizesOf b .fade) T (e .control) exactBound (e .points) (length words)
 
   -- the state that an accepted call leaves
   unfoldable pub exactAccepted : ExactVoice → Call → ExactVoice
@@ -99,8 +99,8 @@ isPlay (seek P) = false
 isPlay (play words) = true
 
 -- those of a list that goes on after n samples
-unfoldable pub marks : List ℤ → List ℤ → ℕ → Voice → ℕ → List Call → List Mark
-marks b store S v n [] = []
-marks b store S v n (c ∷ calls) =
-    let rest = marks b store S (callVoice b store S v c) (n + length (callSamples b store S v c)) calls in
-    cond (isPlay c) rest (cond (eqb (callNumber b store S v c) 0) (record { before = n; call = c } ∷ rest) rest)
+unfoldable pub marks : List ℤ → List ℤ → Voice → ℕ → List Call → List Mark
+marks b store v n [] = []
+marks b store v n (c ∷ calls) =
+    let rest = marks b store (callVoice b store v c) (n + length (callSamples b store v c)) calls in
+    cond (isPlay c) rest (cond (eqb (callNumber b store v c) 0) (record { before = n; call = c } ∷ rest) rest)

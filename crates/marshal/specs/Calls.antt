@@ -45,8 +45,8 @@ pub record PlayCrossed : Type 0 where
 abbrev pub playCrossed : ℕ → List ℤ → List ℤ → PlayCrossed
 playCrossed n voice words = record { number = n; voice = voice; words = words }
 
-unfoldable pub playCrossing : List ℤ → List ℤ → List ℤ → ℕ → List ℤ → PlayCrossed
-playCrossing voice b store S out =
-    let a = playAnswer b store S (voiceOf voice) out in
+unfoldable pub playCrossing : List ℤ → List ℤ → List ℤ → List ℤ → PlayCrossed
+playCrossing voice b store out =
+    let a = playAnswer b store (voiceOf voice) out in
     let words = cond (eqb (a .number) 0) (wordsOf (a .voice)) voice in
     cond (eqb (length voice) voiceLength) (playCrossed (a .number) words (a .words)) (playCrossed lengthNumber voice out)

@@ -79,19 +79,13 @@ pub fn seek(voice: &mut [i32], position: u64) -> u32
     returned(voice, a)
 }
 
-// Fills the whole output slice. `sample_count` is the S that the store was built with.
-pub fn play(
-    voice: &mut [i32],
-    book: &[i32],
-    store: &[i32],
-    sample_count: usize,
-    out: &mut [i16],
-) -> u32
-    ensures { λ r. ⌜ playCrossed r (now (voice .exit)) (now (out .exit)) ≡ playCrossing (now (voice .entry)) (now (book .entry)) (now (store .entry)) «sample_count» (now (out .entry)) ⌝ }
+// Fills the whole output slice.
+pub fn play(voice: &mut [i32], book: &[i32], store: &[i32], out: &mut [i16]) -> u32
+    ensures { λ r. ⌜ playCrossed r (now (voice .exit)) (now (out .exit)) ≡ playCrossing (now (voice .entry)) (now (book .entry)) (now (store .entry)) (now (out .entry)) ⌝ }
 {
     if voice.len() != 95 {
         return 28;
     }
-    let a = voice_of(voice).play(book, store, sample_count, out);
+    let a = voice_of(voice).play(book, store, out);
     returned(voice, a)
 }

@@ -42,43 +42,43 @@ words-within bound h w k = go (decLt k 81)
     go (yes l) = rw (getD-take 81 h k (pos 0) l) (w k l)
     go (no l) = rw (at-outside (take 81 h) k (simp length-take (omega arith))) (omega arith)
 
-module _ (b store : List ℤ) (S : ℕ) where
+module _ (b store : List ℤ) where
   next-small : Accepted b → (v : Voice) → Valid (sizesOf b .fade) (v .control) → Within (2 ^ 29) (v .history)
-      → (k : ℕ) → natAbs (at (nextVoice b store S v .history) k) ≤ 2 ^ 29
+      → (k : ℕ) → natAbs (at (nextVoice b store v .history) k) ≤ 2 ^ 29
   unfolding nextVoice
   next-small a v s w k =
       let F = sizesOf b .fade in
       let one = moveGlide-valid s in
-      rw (first-words (point b store S) F (v .control) (v .history))
-      (pushTwo-all (λ x. natAbs x ≤ 2 ^ 29) (point b store S) F (v .control) (take 81 (v .history)) (omega arith) (point-small b store S a one) (point-small b store S a (movePoint-valid one)) (words-within (2 ^ 29) (v .history) w) k)
+      rw (first-words (point b store) F (v .control) (v .history))
+      (pushTwo-all (λ x. natAbs x ≤ 2 ^ 29) (point b store) F (v .control) (take 81 (v .history)) (omega arith) (point-small b store a one) (point-small b store a (movePoint-valid one)) (words-within (2 ^ 29) (v .history) w) k)
 
 -- ---- n outputs
 
-module _ (b store : List ℤ) (S : ℕ) (v : Voice) where
-  after-top : (n : ℕ) → voiceAfter b store S v n .control .top ≡ v .control .top
+module _ (b store : List ℤ) (v : Voice) where
+  after-top : (n : ℕ) → voiceAfter b store v n .control .top ≡ v .control .top
   unfolding voiceAfter nextVoice
   after-top zero = refl
-  after-top (suc n) = moveOutput-top (sizesOf b .fade) (voiceAfter b store S v n .control) ∙ after-top n
+  after-top (suc n) = moveOutput-top (sizesOf b .fade) (voiceAfter b store v n .control) ∙ after-top n
 
-  after-valid : Valid (sizesOf b .fade) (v .control) → (n : ℕ) → Valid (sizesOf b .fade) (voiceAfter b store S v n .control)
+  after-valid : Valid (sizesOf b .fade) (v .control) → (n : ℕ) → Valid (sizesOf b .fade) (voiceAfter b store v n .control)
   unfolding voiceAfter nextVoice
   after-valid s zero = s
   after-valid s (suc n) = moveOutput-valid (after-valid s n)
 
   -- as the next output asks for it
-  pub after-ready : (n : ℕ) → Valid (sizesOf b .fade) (v .control) → Valid (sizesOf b .fade) (voiceAfter b store S v n .control) × (voiceAfter b store S v n .control .top ≡ v .control .top)
+  pub after-ready : (n : ℕ) → Valid (sizesOf b .fade) (v .control) → Valid (sizesOf b .fade) (voiceAfter b store v n .control) × (voiceAfter b store v n .control .top ≡ v .control .top)
   after-ready n s = (after-valid s n, after-top n)
 
   module _ (a : Accepted b) (s : Valid (sizesOf b .fade) (v .control)) (w : Within (2 ^ 29) (v .history)) where
-    pub after-within : (n : ℕ) → Within (2 ^ 29) (voiceAfter b store S v n .history)
+    pub after-within : (n : ℕ) → Within (2 ^ 29) (voiceAfter b store v n .history)
     unfolding voiceAfter
     after-within zero = w
-    after-within (suc n) = λ k l. next-small b store S a (voiceAfter b store S v n) (after-valid s n) (after-within n) k
+    after-within (suc n) = λ k l. next-small b store a (voiceAfter b store v n) (after-valid s n) (after-within n) k
 
-  pub length-outputs : (n : ℕ) → length (outputs b store S v n) ≡ n
+  pub length-outputs : (n : ℕ) → length (outputs b store v n) ≡ n
   unfolding outputs
-  length-outputs n = length-tabulate n (λ k. output b (voiceAfter b store S v (suc k) .history))
+  length-outputs n = length-tabulate n (λ k. output b (voiceAfter b store v (suc k) .history))
 
-  pub at-outputs : (n k : ℕ) → k < n → at (outputs b store S v n) k ≡ output b (voiceAfter b store S v (suc k) .history)
+  pub at-outputs : (n k : ℕ) → k < n → at (outputs b store v n) k ≡ output b (voiceAfter b store v (suc k) .history)
   unfolding outputs
-  at-outputs n k h = getD-tabulate n (λ k. output b (voiceAfter b store S v (suc k) .history)) k (pos 0) h
+  at-outputs n k h = getD-tabulate n (λ k. output b (voiceAfter b store v (suc k) .history)) k (pos 0) h

@@ -46,12 +46,12 @@ module _ (h : List ℤ) (l : length h ≡ 81) where
 
 -- ---- a run along a line
 
-module _ (b store : List ℤ) (S : ℕ) (w : Voice) (l : length (w .history) ≡ 81) (line : List ℤ) (long : length line ≡ 209) (kept : drop 128 line ≡ w .history) where
+module _ (b store : List ℤ) (w : Voice) (l : length (w .history) ≡ 81) (line : List ℤ) (long : length line ≡ 209) (kept : drop 128 line ≡ w .history) where
   abbrev F : ℕ
   F = sizesOf b .fade
 
   abbrev run : ℕ → List ℤ
-  run = runPoints (point b store S) F (w .control)
+  run = runPoints (point b store) F (w .control)
 
   -- the line with the points of n outputs
   abbrev written : ℕ → List ℤ
@@ -61,21 +61,21 @@ module _ (b store : List ℤ) (S : ℕ) (w : Voice) (l : length (w .history) ≡
   behind : (m d : ℕ) → d + m ≤ 64 → drop (128 - 2 * m) (written (d + m)) ≡ run m ++ w .history
   behind m d h =
       let n : ℕ = d + m in
-      let r = length-run (point b store S) F (w .control) n in
+      let r = length-run (point b store) F (w .control) n in
       let e : 128 - 2 * n + 2 * d ≡ 128 - 2 * m = omega arith in
       let front : 128 - 2 * n + length (run n) ≡ 128 = omega (arith, r) in
       sym (ap (λ k. drop k (written n)) e)
       ∙ sym (drop-drop (2 * d) (128 - 2 * n) (written n))
       ∙ ap (drop (2 * d)) ((drop-overwrite line (run n) (128 - 2 * n) (omega (arith, long)) ∙ ap (λ k. run n ++ drop k line) front))
       ∙ ap (λ t. drop (2 * d) (run n ++ t)) kept
-      ∙ run-drop (point b store S) F (w .control) m d (w .history)
+      ∙ run-drop (point b store) F (w .control) m d (w .history)
 
-  pub history-written : (m d : ℕ) → d + m ≤ 64 → part (written (d + m)) (128 - 2 * m) 81 ≡ voiceAfter b store S w m .history
-  history-written m d h = ap (take 81) (behind m d h) ∙ sym (history-after b store S w m (take-all 81 (w .history) (omega (arith, l))))
+  pub history-written : (m d : ℕ) → d + m ≤ 64 → part (written (d + m)) (128 - 2 * m) 81 ≡ voiceAfter b store w m .history
+  history-written m d h = ap (take 81) (behind m d h) ∙ sym (history-after b store w m (take-all 81 (w .history) (omega (arith, l))))
 
   pub length-written : (n : ℕ) → n ≤ 64 → length (written n) ≡ 209
   length-written n h =
-      let r = length-run (point b store S) F (w .control) n in
+      let r = length-run (point b store) F (w .control) n in
       length-overwrite line (run n) (128 - 2 * n) (omega (arith, r, long)) ∙ long
 
   -- every word of it is small
@@ -90,82 +90,82 @@ module _ (b store : List ℤ) (S : ℕ) (w : Voice) (l : length (w .history) ≡
         let none : natAbs (pos 0) ≤ 2 ^ 29 = omega arith in
         let Small : ℤ → Type 0 = λ x. natAbs x ≤ 2 ^ 29 in
         overwrite-every Small none line (run n) (128 - 2 * n) small
-        (run-all (point b store S) F (w .control) Small n
-        (λ k h. let one = moveGlide-valid (control-valid k) in (point-small b store S a one, point-small b store S a (movePoint-valid one)))
+        (run-all (point b store) F (w .control) Small n
+        (λ k h. let one = moveGlide-valid (control-valid k) in (point-small b store a one, point-small b store a (movePoint-valid one)))
         none)
 
 -- ---- a block
 
-pub record Filled (b store : List ℤ) (S : ℕ) (v : Voice) (out₀ : List ℤ) (d : Control) (line out : List ℤ) (i : ℕ) : Type 0 where
+pub record Filled (b store : List ℤ) (v : Voice) (out₀ : List ℤ) (d : Control) (line out : List ℤ) (i : ℕ) : Type 0 where
   pub count : i ≤ length out₀
-  pub control : d ≡ voiceAfter b store S v i .control
+  pub control : d ≡ voiceAfter b store v i .control
   pub long : length line ≡ 209
-  pub points : drop 128 line ≡ voiceAfter b store S v i .history
+  pub points : drop 128 line ≡ voiceAfter b store v i .history
   pub small : (k : ℕ) → natAbs (at line k) ≤ 2 ^ 29
-  pub words : out ≡ paste out₀ 0 (outputs b store S v (length out₀)) i
+  pub words : out ≡ paste out₀ 0 (outputs b store v (length out₀)) i
 
-module _ (b store : List ℤ) (S : ℕ) where
-  pub voiceAfter-+ : (v : Voice) (m n : ℕ) → voiceAfter b store S v (m + n) ≡ voiceAfter b store S (voiceAfter b store S v m) n
+module _ (b store : List ℤ) where
+  pub voiceAfter-+ : (v : Voice) (m n : ℕ) → voiceAfter b store v (m + n) ≡ voiceAfter b store (voiceAfter b store v m) n
   unfolding voiceAfter
   voiceAfter-+ v m zero = rw add-zero
-  voiceAfter-+ v m (suc n) = rw add-suc (ap (nextVoice b store S) (voiceAfter-+ v m n))
+  voiceAfter-+ v m (suc n) = rw add-suc (ap (nextVoice b store) (voiceAfter-+ v m n))
 
-  length-history : (v : Voice) → length (v .history) ≡ 81 → (n : ℕ) → length (voiceAfter b store S v n .history) ≡ 81
+  length-history : (v : Voice) → length (v .history) ≡ 81 → (n : ℕ) → length (voiceAfter b store v n .history) ≡ 81
   unfolding voiceAfter nextVoice
   length-history v l zero = l
-  length-history v l (suc n) = length-pushTwo (point b store S) (sizesOf b .fade) (voiceAfter b store S v n .control) (voiceAfter b store S v n .history) (length-history v l n)
+  length-history v l (suc n) = length-pushTwo (point b store) (sizesOf b .fade) (voiceAfter b store v n .control) (voiceAfter b store v n .history) (length-history v l n)
 
 -- a run of n outputs more
-module _ {b store : List ℤ} {S : ℕ} {v : Voice} {out₀ : List ℤ} {d : Control} {line out : List ℤ} {i : ℕ} (p : Filled b store S v out₀ d line out i) (l : length (v .history) ≡ 81) where
+module _ {b store : List ℤ} {v : Voice} {out₀ : List ℤ} {d : Control} {line out : List ℤ} {i : ℕ} (p : Filled b store v out₀ d line out i) (l : length (v .history) ≡ 81) where
   abbrev w : Voice
-  w = voiceAfter b store S v i
+  w = voiceAfter b store v i
 
   w-length : length (w .history) ≡ 81
-  w-length = length-history b store S v l i
+  w-length = length-history b store v l i
 
   abbrev make : Plan → ℤ
-  make = point b store S
+  make = point b store
 
   -- the line that the run leaves
-  line-is : {line₁ : List ℤ} (n : ℕ) → line₁ ≡ overwrite line (128 - 2 * n) (runPoints make (sizesOf b .fade) d n) → line₁ ≡ written b store S w w-length line (p .long) (p .points) n
+  line-is : {line₁ : List ℤ} (n : ℕ) → line₁ ≡ overwrite line (128 - 2 * n) (runPoints make (sizesOf b .fade) d n) → line₁ ≡ written b store w w-length line (p .long) (p .points) n
   line-is n e = e ∙ ap (λ c. overwrite line (128 - 2 * n) (runPoints make (sizesOf b .fade) c n)) (p .control)
 
   -- every word of it is small
   pub run-small : Accepted b → Valid (sizesOf b .fade) (v .control) → {line₁ : List ℤ} (n : ℕ) → line₁ ≡ overwrite line (128 - 2 * n) (runPoints make (sizesOf b .fade) d n)
       → (k : ℕ) → natAbs (at line₁ k) ≤ 2 ^ 29
   run-small a s n e k =
-      let valid = after-ready b store S v i s .0 in
-      rw (line-is n e) (written-small b store S w w-length line (p .long) (p .points) a valid (p .small) n k)
+      let valid = after-ready b store v i s .0 in
+      rw (line-is n e) (written-small b store w w-length line (p .long) (p .points) a valid (p .small) n k)
 
   module _ (n : ℕ) (few : n ≤ 64) (room : i + n ≤ length out₀) {line₁ : List ℤ} (line-e : line₁ ≡ overwrite line (128 - 2 * n) (runPoints make (sizesOf b .fade) d n)) where
     -- the history after m of the run's outputs
-    after : (m k : ℕ) → k + m ≡ n → part line₁ (128 - 2 * m) 81 ≡ voiceAfter b store S v (i + m) .history
+    after : (m k : ℕ) → k + m ≡ n → part line₁ (128 - 2 * m) 81 ≡ voiceAfter b store v (i + m) .history
     after m k e =
-        ap (λ x. part x (128 - 2 * m) 81) (line-is n line-e ∙ ap (written b store S w w-length line (p .long) (p .points)) (sym e))
-        ∙ history-written b store S w w-length line (p .long) (p .points) m k (omega (arith, e))
-        ∙ ap (λ u. u .history) (sym (voiceAfter-+ b store S v i m))
+        ap (λ x. part x (128 - 2 * m) 81) (line-is n line-e ∙ ap (written b store w w-length line (p .long) (p .points)) (sym e))
+        ∙ history-written b store w w-length line (p .long) (p .points) m k (omega (arith, e))
+        ∙ ap (λ u. u .history) (sym (voiceAfter-+ b store v i m))
 
     -- and the outputs of each
-    output-is : (k : ℕ) → k < n → output b (part line₁ (126 - 2 * k) 81) ≡ at (outputs b store S v (length out₀)) (i + k)
+    output-is : (k : ℕ) → k < n → output b (part line₁ (126 - 2 * k) 81) ≡ at (outputs b store v (length out₀)) (i + k)
     output-is k h =
         let e : 126 - 2 * k ≡ 128 - 2 * suc k = omega arith in
         let r : n - suc k + suc k ≡ n = omega arith in
         ap (λ a. output b (part line₁ a 81)) e
         ∙ ap (output b) (after (suc k) (n - suc k) r)
-        ∙ ap (λ m. output b (voiceAfter b store S v m .history)) (add-suc i k)
-        ∙ sym (at-outputs b store S v (length out₀) (i + k) (omega arith))
+        ∙ ap (λ m. output b (voiceAfter b store v m .history)) (add-suc i k)
+        ∙ sym (at-outputs b store v (length out₀) (i + k) (omega arith))
 
     abbrev newest : List ℤ
     newest = part line₁ (128 - 2 * n) 81
 
     pub line-long : length line₁ ≡ 209
-    line-long = ap length (line-is n line-e) ∙ length-written b store S w w-length line (p .long) (p .points) n few
+    line-long = ap length (line-is n line-e) ∙ length-written b store w w-length line (p .long) (p .points) n few
 
     newest-length : length newest ≡ 81
     newest-length = part-length line₁ (128 - 2 * n) 81 (omega (arith, line-long))
 
     pub filled-more : {line₂ out₁ : List ℤ} {d₁ : Control} → ((k : ℕ) → natAbs (at line₁ k) ≤ 2 ^ 29) → d₁ ≡ controlAfter (sizesOf b .fade) d n
-        → out₁ ≡ overwrite out i (tabulate n (λ k. output b (part line₁ (126 - 2 * k) 81))) → line₂ ≡ overwrite line₁ 128 newest → Filled b store S v out₀ d₁ line₂ out₁ (i + n)
+        → out₁ ≡ overwrite out i (tabulate n (λ k. output b (part line₁ (126 - 2 * k) 81))) → line₂ ≡ overwrite line₁ 128 newest → Filled b store v out₀ d₁ line₂ out₁ (i + n)
     filled-more small control words points =
         let Small : ℤ → Type 0 = λ x. natAbs x ≤ 2 ^ 29 in
         let none : Small (pos 0) = omega arith in
@@ -173,28 +173,28 @@ module _ {b store : List ℤ} {S : ℕ} {v : Voice} {out₀ : List ℤ} {d : Con
           count = room;
           control = control
               ∙ ap (λ c. controlAfter (sizesOf b .fade) c n) (p .control)
-              ∙ sym (control-after b store S w n)
-              ∙ ap (λ u. u .control) (sym (voiceAfter-+ b store S v i n));
+              ∙ sym (control-after b store w n)
+              ∙ ap (λ u. u .control) (sym (voiceAfter-+ b store v i n));
           long = ap length points ∙ length-overwrite line₁ newest 128 (omega (arith, newest-length, line-long)) ∙ line-long;
           points = ap (drop 128) points ∙ overwrite-end line₁ newest 128 (omega (arith, newest-length, line-long)) ∙ after n 0 (omega arith);
           small = rw points (overwrite-every Small none line₁ newest 128 small (take-every Small none 81 (drop (128 - 2 * n) line₁) (drop-every Small none (128 - 2 * n) line₁ small)));
           words = words
               ∙ ap (λ o. overwrite o i (tabulate n (λ k. output b (part line₁ (126 - 2 * k) 81)))) (p .words)
-              ∙ paste-run out₀ (outputs b store S v (length out₀)) i n _ room (omega (arith, length-outputs b store S v (length out₀))) output-is;
+              ∙ paste-run out₀ (outputs b store v (length out₀)) i n _ room (omega (arith, length-outputs b store v (length out₀))) output-is;
         }
 
 -- ---- what the next run asks for
 
-pub filled-length : {b store : List ℤ} {S : ℕ} {v : Voice} {out₀ : List ℤ} {d : Control} {line out : List ℤ} {i : ℕ} → Filled b store S v out₀ d line out i → length out ≡ length out₀
-filled-length {b} {store} {S} {v} {out₀} {i = i} p =
-    ap length (p .words) ∙ length-paste out₀ 0 (outputs b store S v (length out₀)) i (omega (arith, p .count)) (omega (arith, p .count, length-outputs b store S v (length out₀)))
+pub filled-length : {b store : List ℤ} {v : Voice} {out₀ : List ℤ} {d : Control} {line out : List ℤ} {i : ℕ} → Filled b store v out₀ d line out i → length out ≡ length out₀
+filled-length {b} {store} {v} {out₀} {i = i} p =
+    ap length (p .words) ∙ length-paste out₀ 0 (outputs b store v (length out₀)) i (omega (arith, p .count)) (omega (arith, p .count, length-outputs b store v (length out₀)))
 
-pub filled-ready : {b store : List ℤ} {S : ℕ} {v : Voice} {out₀ : List ℤ} {d : Control} {line out : List ℤ} {i : ℕ} → Filled b store S v out₀ d line out i
+pub filled-ready : {b store : List ℤ} {v : Voice} {out₀ : List ℤ} {d : Control} {line out : List ℤ} {i : ℕ} → Filled b store v out₀ d line out i
     → Valid (sizesOf b .fade) (v .control) → Valid (sizesOf b .fade) d × (d .top ≡ v .control .top)
-filled-ready {b} {store} {S} {v} {i = i} p s = rw (p .control) (after-ready b store S v i s)
+filled-ready {b} {store} {v} {i = i} p s = rw (p .control) (after-ready b store v i s)
 
 -- ---- the voice at the end
 
-pub end-history : {b store : List ℤ} {S : ℕ} {v : Voice} {out₀ : List ℤ} {d : Control} {line out : List ℤ} {i : ℕ} → Filled b store S v out₀ d line out i → length (v .history) ≡ 81
-    → part line 128 81 ≡ voiceAfter b store S v i .history
-end-history {b} {store} {S} {v} {i = i} p l = ap (take 81) (p .points) ∙ take-all 81 (voiceAfter b store S v i .history) (omega (arith, length-history b store S v l i))
+pub end-history : {b store : List ℤ} {v : Voice} {out₀ : List ℤ} {d : Control} {line out : List ℤ} {i : ℕ} → Filled b store v out₀ d line out i → length (v .history) ≡ 81
+    → part line 128 81 ≡ voiceAfter b store v i .history
+end-history {b} {store} {v} {i = i} p l = ap (take 81) (p .points) ∙ take-all 81 (voiceAfter b store v i .history) (omega (arith, length-history b store v l i))

@@ -15,14 +15,14 @@ use Rattle.player.specs.Outputs.{push, pushTwo, nextVoice, voiceAfter}
 use Rattle.positions.specs.Runs.{controlAfter, firstPlan, secondPlan}
 use Rattle.points.specs.Runs.{runPoints}
 
-module _ (b store : List ℤ) (S : ℕ) (v : Voice) where
+module _ (b store : List ℤ) (v : Voice) where
   abbrev F : ℕ
   F = sizesOf b .fade
 
   abbrev run : ℕ → List ℤ
-  run = runPoints (point b store S) F (v .control)
+  run = runPoints (point b store) F (v .control)
 
-  pub control-after : (n : ℕ) → voiceAfter b store S v n .control ≡ controlAfter F (v .control) n
+  pub control-after : (n : ℕ) → voiceAfter b store v n .control ≡ controlAfter F (v .control) n
   unfolding voiceAfter nextVoice controlAfter
   control-after zero = refl
   control-after (suc n) = ap (moveOutput F) (control-after n)
@@ -32,9 +32,9 @@ module _ (b store : List ℤ) (S : ℕ) (v : Voice) where
   unfolding push
   two-more x y l = ap (λ t. y ∷ x ∷ t) (take-take 79 80 (take 81 l) (omega arith) ∙ take-take 79 81 l (omega arith))
 
-  pub history-after : (n : ℕ) → take 81 (v .history) ≡ v .history → voiceAfter b store S v n .history ≡ take 81 (run n ++ v .history)
+  pub history-after : (n : ℕ) → take 81 (v .history) ≡ v .history → voiceAfter b store v n .history ≡ take 81 (run n ++ v .history)
   unfolding voiceAfter nextVoice pushTwo runPoints
   history-after zero e = sym e
   history-after (suc n) e =
-      ap₂ (pushTwo (point b store S) F) (control-after n) (history-after n e)
-      ∙ two-more (point b store S (firstPlan F (v .control) n)) (point b store S (secondPlan F (v .control) n)) (run n ++ v .history)
+      ap₂ (pushTwo (point b store) F) (control-after n) (history-after n e)
+      ∙ two-more (point b store (firstPlan F (v .control) n)) (point b store (secondPlan F (v .control) n)) (run n ++ v .history)

@@ -52,9 +52,9 @@ pub record Played : Type 0 where
 abbrev pub played : ℕ → Voice → List ℤ → Played
 played n v words = record { number = n; voice = v; words = words }
 
--- play of an output slice, lent a book and a store and told its S
-unfoldable pub playAnswer : List ℤ → List ℤ → ℕ → Voice → List ℤ → Played
-playAnswer b store S v words =
-    let n = playNumber b store S (v .control) pointBound (v .history) (length words) in
+-- play of an output slice, lent a book and a store
+unfoldable pub playAnswer : List ℤ → List ℤ → Voice → List ℤ → Played
+playAnswer b store v words =
+    let n = playNumber b store (v .control) pointBound (v .history) (length words) in
     let count = length words in
-    played n (cond (eqb n 0) (voiceAfter b store S v count) v) (cond (eqb n 0) (outputs b store S v count) words)
+    played n (cond (eqb n 0) (voiceAfter b store v count) v) (cond (eqb n 0) (outputs b store v count) words)

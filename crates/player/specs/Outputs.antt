@@ -24,16 +24,16 @@ pushTwo make F c history =
     push (make (pointPlan c₂)) (push (make (pointPlan c₁)) history)
 
 -- the voice after an output
-unfoldable pub nextVoice : List ℤ → List ℤ → ℕ → Voice → Voice
-nextVoice b store S v =
+unfoldable pub nextVoice : List ℤ → List ℤ → Voice → Voice
+nextVoice b store v =
     let F = sizesOf b .fade in
-    record { control = moveOutput F (v .control); history = pushTwo (point b store S) F (v .control) (v .history) }
+    record { control = moveOutput F (v .control); history = pushTwo (point b store) F (v .control) (v .history) }
 
 -- the voice after n outputs
-unfoldable pub voiceAfter : List ℤ → List ℤ → ℕ → Voice → ℕ → Voice
-voiceAfter b store S v zero = v
-voiceAfter b store S v (suc n) = nextVoice b store S (voiceAfter b store S v n)
+unfoldable pub voiceAfter : List ℤ → List ℤ → Voice → ℕ → Voice
+voiceAfter b store v zero = v
+voiceAfter b store v (suc n) = nextVoice b store (voiceAfter b store v n)
 
 -- n outputs
-unfoldable pub outputs : List ℤ → List ℤ → ℕ → Voice → ℕ → List ℤ
-outputs b store S v n = tabulate n (λ k. output b (voiceAfter b store S v (suc k) .history))
+unfoldable pub outputs : List ℤ → List ℤ → Voice → ℕ → List ℤ
+outputs b store v n = tabulate n (λ k. output b (voiceAfter b store v (suc k) .history))

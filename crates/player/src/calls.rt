@@ -144,20 +144,20 @@ impl Voice {
         }
     }
 
-    // Fills the whole output slice from a store that was built for `sample_count` samples by this book.
-    pub fn play(self, book: &[i32], store: &[i32], sample_count: usize, out: &mut [i16]) -> Answer
-        ensures { λ r. ⌜ played (r .number) (r .voice) (now (out .exit)) ≡ playAnswer (now (book .entry)) (now (store .entry)) «sample_count» self (now (out .entry)) ⌝ }
+    // Fills the whole output slice from a store that was built by this book.
+    pub fn play(self, book: &[i32], store: &[i32], out: &mut [i16]) -> Answer
+        ensures { λ r. ⌜ played (r .number) (r .voice) (now (out .exit)) ≡ playAnswer (now (book .entry)) (now (store .entry)) self (now (out .entry)) ⌝ }
     {
         let c = self.control;
         let history = self.history;
-        let number = play_number(c, history, book, store, sample_count, out.len());
+        let number = play_number(c, history, book, store, out.len());
         if number != 0 {
             return Answer {
                 number,
                 voice: self,
             };
         }
-        let voice = fill(self, book, store, sample_count, out);
+        let voice = fill(self, book, store, out);
         Answer { number: 0, voice }
     }
 }

@@ -8,7 +8,8 @@ ghost use lib.ListN.{length, drop};
 ghost use Rattle.arith.specs.Lists.{at, part, overwrite};
 ghost use Rattle.book.specs.Book.{sizesOf};
 ghost use Rattle.book.specs.Check.{bookNumber};
-ghost use Rattle.levels.specs.Sizes.{levelStart};
+ghost use Rattle.store.specs.Store.{topLevel};
+ghost use Rattle.store.specs.Check.{storeNumber};
 ghost use Rattle.player.specs.Outputs.{voiceAfter, outputs};
 ghost use Rattle.control.specs.Valid.{Valid};
 ghost use Rattle.values.specs.Layout.{LayoutOf};
@@ -81,8 +82,8 @@ fn fill_by(
 ) -> Voice
     requires { ⌜ ((length (now table) ≡ 0 → ⊥) → TableOf (now book) (now table)) ⌝ }
     requires { ⌜ LayoutOf (now book) (now store) (v .control .top) layout × Valid (sizesOf (now book) .fade) (v .control) × ((k : ℕ) → k < 81 → natAbs (at (v .history) k) ≤ 2 ^ 29) ⌝ }
-    ensures voice { λ r. ⌜ r ≡ voiceAfter (now (book .entry)) (now (store .entry)) (layout .recorded) v (length (now (out .entry))) ⌝ }
-    ensures words { λ r. ⌜ now (out .exit) ≡ outputs (now (book .entry)) (now (store .entry)) (layout .recorded) v (length (now (out .entry))) ⌝ }
+    ensures voice { λ r. ⌜ r ≡ voiceAfter (now (book .entry)) (now (store .entry)) v (length (now (out .entry))) ⌝ }
+    ensures words { λ r. ⌜ now (out .exit) ≡ outputs (now (book .entry)) (now (store .entry)) v (length (now (out .entry))) ⌝ }
 {
     let decimation = book::decimation_taps(book);
     let history = v.history;
@@ -114,19 +115,13 @@ fn table_pays(outputs: usize, phases: usize, taps: usize) -> bool
 }
 
 // Fills the output slice, and hands back the voice after it.
-pub(crate) fn fill(
-    v: Voice,
-    book: &[i32],
-    store: &[i32],
-    sample_count: usize,
-    out: &mut [i16],
-) -> Voice
-    requires { ⌜ (bookNumber (now book) ≡ 0) × («sample_count» ≤ 1048576) × Valid (sizesOf (now book) .fade) (v .control) ⌝ }
-    requires { ⌜ (levelStart «sample_count» (v .control .top + 1) ≤ length (now store)) × ((k : ℕ) → k < 81 → natAbs (at (v .history) k) ≤ 2 ^ 29) ⌝ }
-    ensures voice { λ r. ⌜ r ≡ voiceAfter (now (book .entry)) (now (store .entry)) «sample_count» v (length (now (out .entry))) ⌝ }
-    ensures words { λ r. ⌜ now (out .exit) ≡ outputs (now (book .entry)) (now (store .entry)) «sample_count» v (length (now (out .entry))) ⌝ }
+pub(crate) fn fill(v: Voice, book: &[i32], store: &[i32], out: &mut [i16]) -> Voice
+    requires { ⌜ (bookNumber (now book) ≡ 0) × (storeNumber (now store) ≡ 0) × (v .control .top ≡ topLevel (now store)) ⌝ }
+    requires { ⌜ Valid (sizesOf (now book) .fade) (v .control) × ((k : ℕ) → k < 81 → natAbs (at (v .history) k) ≤ 2 ^ 29) ⌝ }
+    ensures voice { λ r. ⌜ r ≡ voiceAfter (now (book .entry)) (now (store .entry)) v (length (now (out .entry))) ⌝ }
+    ensures words { λ r. ⌜ now (out .exit) ≡ outputs (now (book .entry)) (now (store .entry)) v (length (now (out .entry))) ⌝ }
 {
-    let layout = layout_of(book, sample_count);
+    let layout = layout_of(book, store);
     let phases = layout.phases;
     let taps = layout.taps;
     if table_pays(out.len(), phases, taps) {

@@ -38,21 +38,21 @@ plan-read s o p e =
 -- ---- how large a point is
 
 -- a point is a value or a mean of two
-pub point-bound : (b : List ℤ) → Accepted b → (store : List ℤ) (S : ℕ) (p : Plan) → p .old ≤ 4 → p .new ≤ 4 → p .step ≤ sizesOf b .fade → natAbs (point b store S p) ≤ 2 ^ 29
+pub point-bound : (b : List ℤ) → Accepted b → (store : List ℤ) (p : Plan) → p .old ≤ 4 → p .new ≤ 4 → p .step ≤ sizesOf b .fade → natAbs (point b store p) ≤ 2 ^ 29
 unfolding point
-point-bound b a store S p h k m = go (eqb (p .step) 0)
+point-bound b a store p h k m = go (eqb (p .step) 0)
   where
     old : ℤ
-    old = value b store S (p .old) (p .position)
+    old = value b store (p .old) (p .position)
 
     new : ℤ
-    new = value b store S (p .new) (p .position)
+    new = value b store (p .new) (p .position)
 
     F : ℕ
     F = sizesOf b .fade
 
     go : (t : Bool) → natAbs (cond t old (near (pos (F - p .step) *ℤ old +ℤ pos (p .step) *ℤ new) F)) ≤ 2 ^ 29
-    go true = value-small b a store S (p .old) (p .position) h
+    go true = value-small b a store (p .old) (p .position) h
     go false =
         let r = F - p .step in
         let mixed = pos r *ℤ old +ℤ pos (p .step) *ℤ new in
@@ -61,15 +61,15 @@ point-bound b a store S p h k m = go (eqb (p .step) 0)
           abs-triangle (pos r *ℤ old) (pos (p .step) *ℤ new),
           abs-* (pos r) old,
           abs-* (pos (p .step)) new,
-          mean-≤ r (p .step) (value-small b a store S (p .old) (p .position) h) (value-small b a store S (p .new) (p .position) k),
+          mean-≤ r (p .step) (value-small b a store (p .old) (p .position) h) (value-small b a store (p .new) (p .position) k),
         ))
 
 -- a valid control's point
-pub point-small : (b store : List ℤ) (S : ℕ) → Accepted b → {c : Control} → Valid (sizesOf b .fade) c → natAbs (point b store S (pointPlan c)) ≤ 2 ^ 29
-point-small b store S a {c} s = point-bound b a store S (pointPlan c) (omega (arith, plan-old s, s .top-high)) (omega (arith, plan-new s, s .top-high)) (plan-step s)
+pub point-small : (b store : List ℤ) → Accepted b → {c : Control} → Valid (sizesOf b .fade) c → natAbs (point b store (pointPlan c)) ≤ 2 ^ 29
+point-small b store a {c} s = point-bound b a store (pointPlan c) (omega (arith, plan-old s, s .top-high)) (omega (arith, plan-new s, s .top-high)) (plan-step s)
 
 -- ---- without a fade
 
-pub steady-point : (b store : List ℤ) (S l P : ℕ) → point b store S (steadyPlan l P) ≡ value b store S l P
+pub steady-point : (b store : List ℤ) (l P : ℕ) → point b store (steadyPlan l P) ≡ value b store l P
 unfolding point
-steady-point b store S l P = refl
+steady-point b store l P = refl

@@ -27,7 +27,7 @@ mod point; // a point from its plan
 // Writes the two points of one output, whatever they need.
 fn one_output(line: &mut [i64], c: Control, book: &[i32], store: &[i32], layout: Layout) -> Run
     requires { ⌜ LayoutOf (now book) (now store) (c .top) layout × Valid (layout .fade) c × (length (now line) ≡ 209) ⌝ }
-    ensures { λ r. ⌜ (r .made ≡ 1) × (r .control ≡ controlAfter (layout .fade) c 1) × (now (line .exit) ≡ overwrite (now (line .entry)) 126 (runPoints (point (now (book .entry)) (now (store .entry)) (layout .recorded)) (layout .fade) c 1)) ⌝ }
+    ensures { λ r. ⌜ (r .made ≡ 1) × (r .control ≡ controlAfter (layout .fade) c 1) × (now (line .exit) ≡ overwrite (now (line .entry)) 126 (runPoints (point (now (book .entry)) (now (store .entry))) (layout .fade) c 1)) ⌝ }
 {
     let fade = layout.fade;
     let one = glide_moved(c);
@@ -67,7 +67,7 @@ fn steady_run(
     requires { ⌜ LayoutOf (now book) (now store) (c .top) layout × Valid (layout .fade) c × (c .fade .step ≡ 0) × (length (now line) ≡ 209) × (count ≤ 64) ⌝ }
     requires { ⌜ ((length (now table) ≡ 0 → ⊥) → TableOf (now book) (now table)) ⌝ }
     ensures { λ r. ⌜ (r .made ≤ count) × (r .control ≡ controlAfter (layout .fade) c (r .made)) ⌝ }
-    ensures points { λ r. ⌜ now (line .exit) ≡ overwrite (now (line .entry)) (128 - 2 * r .made) (runPoints (point (now (book .entry)) (now (store .entry)) (layout .recorded)) (layout .fade) c (r .made)) ⌝ }
+    ensures points { λ r. ⌜ now (line .exit) ≡ overwrite (now (line .entry)) (128 - 2 * r .made) (runPoints (point (now (book .entry)) (now (store .entry))) (layout .fade) c (r .made)) ⌝ }
 {
     let mut positions = [0u64; 128];
     let r = steady_positions(c, layout.fade, count, &mut positions);
@@ -101,7 +101,7 @@ pub fn next_points(
     requires { ⌜ LayoutOf (now book) (now store) (c .top) layout × Valid (layout .fade) c × (length (now line) ≡ 209) × (1 ≤ count) × (count ≤ 64) ⌝ }
     requires { ⌜ ((length (now table) ≡ 0 → ⊥) → TableOf (now book) (now table)) ⌝ }
     ensures { λ r. ⌜ (1 ≤ r .made) × (r .made ≤ count) × (r .control ≡ controlAfter (layout .fade) c (r .made)) ⌝ }
-    ensures points { λ r. ⌜ now (line .exit) ≡ overwrite (now (line .entry)) (128 - 2 * r .made) (runPoints (point (now (book .entry)) (now (store .entry)) (layout .recorded)) (layout .fade) c (r .made)) ⌝ }
+    ensures points { λ r. ⌜ now (line .exit) ≡ overwrite (now (line .entry)) (128 - 2 * r .made) (runPoints (point (now (book .entry)) (now (store .entry))) (layout .fade) c (r .made)) ⌝ }
 {
     if c.fade.step != 0 {
         return one_output(line, c, book, store, layout);

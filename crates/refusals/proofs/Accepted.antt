@@ -3,12 +3,14 @@ use mathlib.Core.Path.{_≡_, refl}
 use mathlib.Core.Bool.{true, not}
 use Prim.Native.Nat.{ℕ, _≤_}
 use native.Mathlib.Omega.{arith}
-use borrow.Author.Tests.{ltb-false, leb-true, eqb-false}
+use borrow.Author.Tests.{ltb-false, eqb-false}
 use lib.Dec.{eqb}
+use lib.IntN.{pos}
 use Rattle.arith.proofs.Tests.{||-left, ||-right}
 use Rattle.book.specs.Number.{refuse}
 use Rattle.book.proofs.Numbers.{none-first, none-second, condition-fails, not-refused}
-use Rattle.levels.specs.Sizes.{topInRange}
+use Rattle.store.specs.Sizes.{topInRange}
+use Rattle.store.proofs.Ranges.{top-high}
 use Rattle.control.specs.declared.Card.{Card}
 use Rattle.control.specs.declared.Control.{Control}
 use Rattle.control.specs.declared.Order.{Order}
@@ -25,12 +27,12 @@ use Rattle.control.proofs.Kept.{moved-valid}
 
 module _ (card : Card) (e : openNumber card ≡ 0) where
   pub open-top : card .top ≤ 4
-  unfolding openNumber topInRange
-  open-top = leb-true _ _ (not-refused 7 (topInRange (card .top)) (none-first _ _ e))
+  unfolding openNumber
+  open-top = top-high (card .top) (not-refused 7 (topInRange (pos (card .top))) (none-first _ _ e))
 
   pub open-rate : rateInRange (card .rate) (card .top) ≡ true
   unfolding openNumber
-  open-rate = not-refused 9 _ (none-second (refuse 8 (not (topInRange (card .top)))) _ e)
+  open-rate = not-refused 9 _ (none-second (refuse 8 (not (topInRange (pos (card .top))))) _ e)
 
 -- a fresh control is at rest, at a level that its rate asks for
 pub fresh-valid : (F : ℕ) (card : Card) → 1 ≤ F → openNumber card ≡ 0 → Valid F (freshControl (card .top) (rateOf (card .rate)))

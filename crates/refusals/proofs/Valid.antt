@@ -11,11 +11,11 @@ use lib.IntN.{ℤ, natAbs}
 use Rattle.arith.specs.Lists.{at}
 use Rattle.arith.proofs.Tests.{every-at, every-all, ||-left, ||-right}
 use Rattle.book.specs.Number.{refuse, _otherwise_}
-use Rattle.book.proofs.Numbers.{none-first, none-second, condition-fails}
+use Rattle.book.proofs.Numbers.{none-first, none-second, condition-fails, not-refused}
 use Rattle.control.specs.declared.Control.{Control}
 use Rattle.control.specs.declared.Order.{Order}
 use Rattle.control.specs.Valid.{GlideValid, Valid}
-use Rattle.refusals.specs.Refusals.{outputCountWrong, positionWrong, levelsWrong, fadeWrong, rateWrong, glideWrong, historyWrong, lateNumber, orderInputNumber, orderNumber, seekNumber, playStateNumber}
+use Rattle.refusals.specs.Refusals.{outputCountWrong, positionWrong, levelsWrong, topWrong, levelsNumber, fadeWrong, rateWrong, glideWrong, historyWrong, lateNumber, orderInputNumber, orderNumber, seekNumber, playStateNumber}
 
 -- the 81 points of a history lie within ±bound
 abbrev pub Within : ℕ → List ℤ → Type 0
@@ -26,6 +26,11 @@ Within bound h = (k : ℕ) → k < 81 → natAbs (at h k) ≤ bound
 pub levels-right : (c : Control) → levelsWrong c ≡ false → (c .top ≤ 4) × (c .fade .from ≤ c .top) × (c .fade .to ≤ c .top)
 unfolding levelsWrong
 levels-right c e = (ltb-false _ _ (search (||-left, ||-right)), ltb-false _ _ (search (||-left, ||-right)), ltb-false _ _ (search (||-left, ||-right)))
+
+-- T is in range where neither 13 nor 19 is given
+pub top-right : (T : ℕ) (c : Control) → levelsNumber T c ≡ 0 → c .top ≤ 4
+unfolding levelsNumber
+top-right T c e = levels-right c (condition-fails 12 _ (none-first _ _ e)) .0
 
 -- (14 says that two tests differ, or i is too high)
 alike : (r q l : Bool) → r && not q || not r && q || l ≡ false → (r ≡ q) × (l ≡ false)
@@ -66,10 +71,18 @@ history-right bound h e k l = leb-true _ _ (every-at 81 (λ k. leb (natAbs (at h
 
 -- ---- the numbers of a play that is not refused
 
-module _ (F n bound : ℕ) (c : Control) (h : List ℤ) (e : playStateNumber F c bound h n ≡ 0) where
+module _ (F T n bound : ℕ) (c : Control) (h : List ℤ) (e : playStateNumber F T c bound h n ≡ 0) where
+  levels-on : levelsNumber T c ≡ 0
+  unfolding playStateNumber
+  levels-on = none-first (levelsNumber T c) _ e
+
+  pub same-top : c .top ≡ T
+  unfolding levelsNumber topWrong
+  same-top = eqb-true _ _ (not-refused 18 _ (none-second (refuse 13 (levelsWrong c)) _ levels-on))
+
   fade-on : refuse 14 (fadeWrong F c) otherwise lateNumber c bound h otherwise refuse 11 (outputCountWrong n) ≡ 0
   unfolding playStateNumber
-  fade-on = none-second (refuse 13 (levelsWrong c)) _ e
+  fade-on = none-second (levelsNumber T c) _ e
 
   late-on : lateNumber c bound h otherwise refuse 11 (outputCountWrong n) ≡ 0
   late-on = none-second (refuse 14 (fadeWrong F c)) _ fade-on
@@ -79,9 +92,9 @@ module _ (F n bound : ℕ) (c : Control) (h : List ℤ) (e : playStateNumber F c
   position-on = none-second (refuse 15 (glideWrong c)) _ (none-first (lateNumber c bound h) _ late-on)
 
   pub valid-of : Valid F c
-  unfolding playStateNumber lateNumber glideWrong positionWrong
+  unfolding levelsNumber lateNumber glideWrong positionWrong
   valid-of =
-      let levels = levels-right c (condition-fails 12 _ (none-first _ _ e)) in
+      let levels = levels-right c (condition-fails 12 _ (none-first _ _ levels-on)) in
       let fade = fade-right F c (condition-fails 13 _ (none-first _ _ fade-on)) in
       let glide : glideWrong c ≡ false = condition-fails 14 _ (none-first _ _ (none-first (lateNumber c bound h) _ late-on)) in
       let rate = rate-right (c .top) (c .rate) (||-left _ _ glide) in
@@ -140,9 +153,9 @@ module _ {F : ℕ} {c : Control} (s : Valid F c) where
     unfolding lateNumber positionWrong historyWrong refuse _otherwise_
     late-number = rw (glides-valid, le-ltb (2 ^ 60) (c .position) (s .position-high), every-all 81 (λ k. leb (natAbs (at h k)) bound) (λ k l. le-leb (natAbs (at h k)) bound (w k l)))
 
-    pub play-number : (n : ℕ) → playStateNumber F c bound h n ≡ refuse 11 (outputCountWrong n)
-    unfolding playStateNumber refuse _otherwise_
-    play-number n = rw (levels-valid, fade-valid, late-number)
+    pub play-number : (T n : ℕ) → c .top ≡ T → playStateNumber F T c bound h n ≡ refuse 11 (outputCountWrong n)
+    unfolding playStateNumber levelsNumber topWrong refuse _otherwise_
+    play-number T n t = rw (levels-valid, eq-eqb (c .top) T t, fade-valid, late-number)
 
     pub order-number : (o : Order) → orderNumber c bound h o ≡ orderInputNumber (c .top) o
     unfolding orderNumber refuse _otherwise_

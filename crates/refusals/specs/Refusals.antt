@@ -1,16 +1,17 @@
--- When a call says no (document 01): the numbers of the player's calls, each call's in its order.
+-- When a call says no (document 01; 18 and 19: document 02, (a)): the numbers of the player's calls, each call's in its order.
 use mathlib.Core.Bool.{Bool, not, _&&_, _||_}
 use mathlib.Core.List.{List}
 use Prim.Native.Nat.{ℕ, _+_, _^_}
 use lib.Dec.{ltb, leb, eqb}
-use lib.IntN.{ℤ, natAbs}
-use lib.ListN.{length}
+use lib.IntN.{ℤ, pos, natAbs}
 use Rattle.arith.specs.Lists.{at}
 use Rattle.arith.specs.Tests.{every}
 use Rattle.book.specs.Number.{refuse, _otherwise_}
 use Rattle.book.specs.Book.{sizesOf}
-use Rattle.levels.specs.Sizes.{topInRange}
-use Rattle.levels.specs.Build.{storeNumber}
+use Rattle.book.specs.Check.{bookNumber}
+use Rattle.store.specs.Sizes.{topInRange}
+use Rattle.store.specs.Store.{topLevel}
+use Rattle.store.specs.Check.{storeNumber}
 use Rattle.control.specs.declared.Card.{Card}
 use Rattle.control.specs.declared.Control.{Control}
 use Rattle.control.specs.declared.Order.{Order}
@@ -35,6 +36,14 @@ positionWrong P = ltb (2 ^ 60) P
 -- 13: T above 4, or a level above T
 unfoldable pub levelsWrong : Control → Bool
 levelsWrong c = ltb 4 (c .top) || ltb (c .top) (c .fade .from) || ltb (c .top) (c .fade .to)
+
+-- 19: the voice's T differs from the store's
+unfoldable pub topWrong : ℕ → Control → Bool
+topWrong T c = not (eqb (c .top) T)
+
+-- 13, then 19, of a voice beside a store whose T is given
+unfoldable pub levelsNumber : ℕ → Control → ℕ
+levelsNumber T c = refuse 13 (levelsWrong c) otherwise refuse 19 (topWrong T c)
 
 -- 14: i = 0 with two levels unequal, i above 0 with them equal, or i at least F
 unfoldable pub fadeWrong : ℕ → Control → Bool
@@ -74,7 +83,7 @@ lateNumber c bound history =
 
 -- opening: 8 for T, 10
 unfoldable pub openNumber : Card → ℕ
-openNumber card = refuse 8 (not (topInRange (card .top))) otherwise refuse 10 (not (rateInRange (card .rate) (card .top)))
+openNumber card = refuse 8 (not (topInRange (pos (card .top)))) otherwise refuse 10 (not (rateInRange (card .rate) (card .top)))
 
 -- the input numbers of an order: 10, and 11 for a glide
 unfoldable pub orderInputNumber : ℕ → Order → ℕ
@@ -89,14 +98,14 @@ orderNumber c bound history o = refuse 13 (levelsWrong c) otherwise lateNumber c
 unfoldable pub seekNumber : Control → ℕ → List ℤ → ℕ → ℕ
 seekNumber c bound history P = refuse 13 (levelsWrong c) otherwise lateNumber c bound history otherwise refuse 12 (positionWrong P)
 
--- play, past its numbers 1 to 9: 13 to 17, then 11
-unfoldable pub playStateNumber : ℕ → Control → ℕ → List ℤ → ℕ → ℕ
-playStateNumber F c bound history n =
-    refuse 13 (levelsWrong c)
+-- play, past the numbers of book and store, whose F and T are given: 13, 19, 14 to 17, then 11
+unfoldable pub playStateNumber : ℕ → ℕ → Control → ℕ → List ℤ → ℕ → ℕ
+playStateNumber F T c bound history n =
+    levelsNumber T c
     otherwise refuse 14 (fadeWrong F c)
     otherwise lateNumber c bound history
     otherwise refuse 11 (outputCountWrong n)
 
--- play of n outputs: 1 to 9, with the voice's T, and then those
-unfoldable pub playNumber : List ℤ → List ℤ → ℕ → Control → ℕ → List ℤ → ℕ → ℕ
-playNumber b store S c bound history n = storeNumber b S (c .top) (length store) otherwise playStateNumber (sizesOf b .fade) c bound history n
+-- play of n outputs: 1 to 7 of the book, 9, 8, 9 and 18 of the store, and then those
+unfoldable pub playNumber : List ℤ → List ℤ → Control → ℕ → List ℤ → ℕ → ℕ
+playNumber b store c bound history n = bookNumber b otherwise storeNumber store otherwise playStateNumber (sizesOf b .fade) (topLevel store) c bound history n

@@ -2,7 +2,7 @@
 
 ghost use mathlib.Core.Path.{_≡_};
 ghost use Prim.Native.Nat.{_≤_};
-ghost use Rattle.refusals.specs.Refusals.{pointBound, levelsWrong, fadeWrong, rateWrong, glideWrong, historyWrong, lateNumber, openNumber, orderNumber, seekNumber, playStateNumber, playNumber};
+ghost use Rattle.refusals.specs.Refusals.{pointBound, levelsWrong, levelsNumber, fadeWrong, rateWrong, glideWrong, historyWrong, lateNumber, openNumber, orderNumber, seekNumber, playStateNumber, playNumber};
 use control::Card;
 use control::Control;
 use control::Order;
@@ -19,6 +19,20 @@ fn levels_wrong(c: Control) -> bool
         return true;
     }
     c.top < c.fade.to
+}
+
+// 13, and 19 for a T other than the store's
+fn levels_number(c: Control, top: u32) -> u32
+    ensures { λ r. ⌜ r ≡ levelsNumber top c ⌝ }
+{
+    let wrong = levels_wrong(c);
+    if wrong {
+        return 13;
+    }
+    if c.top != top {
+        return 19;
+    }
+    0
 }
 
 // 14: i = 0 with two levels unequal, i above 0 with them equal, or i at least F
@@ -167,12 +181,13 @@ pub fn seek_number(c: Control, history: [i32; 81], position: u64) -> u32
     0
 }
 
-// Play past its numbers 1 to 9: 13 to 17, then 11.
-fn play_state_number(c: Control, history: [i32; 81], fade: usize, outputs: usize) -> u32
-    ensures { λ r. ⌜ r ≡ playStateNumber fade c pointBound history outputs ⌝ }
+// Play past the numbers of book and store: 13, 19, 14 to 17, then 11.
+fn play_state_number(c: Control, history: [i32; 81], fade: usize, top: u32, outputs: usize) -> u32
+    ensures { λ r. ⌜ r ≡ playStateNumber fade top c pointBound history outputs ⌝ }
 {
-    if levels_wrong(c) {
-        return 13;
+    let of_levels = levels_number(c, top);
+    if of_levels != 0 {
+        return of_levels;
     }
     if fade_wrong(c, fade) {
         return 14;
@@ -187,21 +202,25 @@ fn play_state_number(c: Control, history: [i32; 81], fade: usize, outputs: usize
     0
 }
 
-// Play: 1 to 9 with the voice's T, 13 to 17, then 11.
+// Play: 1 to 7 of the book, 9, 8, 9 and 18 of the store, then those of the voice and 11.
 pub fn play_number(
     c: Control,
     history: [i32; 81],
     book: &[i32],
     store: &[i32],
-    sample_count: usize,
     outputs: usize,
 ) -> u32
-    ensures { λ r. ⌜ r ≡ playNumber (now (book .entry)) (now (store .entry)) «sample_count» c pointBound history outputs ⌝ }
+    ensures { λ r. ⌜ r ≡ playNumber (now (book .entry)) (now (store .entry)) c pointBound history outputs ⌝ }
 {
-    let number = levels::store_number(book, sample_count, c.top, store.len());
-    if number != 0 {
-        return number;
+    let of_book = book::check(book);
+    if of_book != 0 {
+        return of_book;
+    }
+    let of_store = store::check(store);
+    if of_store != 0 {
+        return of_store;
     }
     let s = book::read_sizes(book);
-    play_state_number(c, history, s.fade, outputs)
+    let top = store::top_level(store);
+    play_state_number(c, history, s.fade, top, outputs)
 }

@@ -1,9 +1,19 @@
-// The player's archive, for C and Rust: the calls of `marshal` under the names that it exports. Building levels is `tone_builder`'s.
+// The player's archive, for C and Rust: the calls of `marshal`, and the store's check, under the names that it exports. Building levels is
+// `tone_builder`'s.
 
 ghost use mathlib.Core.Path.{_≡_};
 ghost use Rattle.control.specs.declared.Order.the-variants.{Jump, Glide};
 ghost use Rattle.player.specs.Calls.{orderAnswer, seekAnswer};
+ghost use Rattle.store.specs.Check.{storeNumber};
 ghost use Rattle.marshal.specs.Calls.{crossed, openCrossing, crossing, playCrossed, playCrossing};
+
+// 0 for an accepted store, else the first of 9, 8, 9 and 18.
+#[no_mangle]
+pub extern "C" fn tone_check_store(store: &[i32]) -> u32
+    ensures { λ r. ⌜ r ≡ storeNumber (now (store .entry)) ⌝ }
+{
+    store::check(store)
+}
 
 // Opens a voice.
 #[no_mangle]
@@ -37,16 +47,10 @@ pub extern "C" fn tone_seek(voice: &mut [i32], position: u64) -> u32
     marshal::seek(voice, position)
 }
 
-// Fills the whole output slice. `sample_count` is the S that the store was built with.
+// Fills the whole output slice.
 #[no_mangle]
-pub extern "C" fn tone_play(
-    voice: &mut [i32],
-    book: &[i32],
-    store: &[i32],
-    sample_count: usize,
-    out: &mut [i16],
-) -> u32
-    ensures { λ r. ⌜ playCrossed r (now (voice .exit)) (now (out .exit)) ≡ playCrossing (now (voice .entry)) (now (book .entry)) (now (store .entry)) «sample_count» (now (out .entry)) ⌝ }
+pub extern "C" fn tone_play(voice: &mut [i32], book: &[i32], store: &[i32], out: &mut [i16]) -> u32
+    ensures { λ r. ⌜ playCrossed r (now (voice .exit)) (now (out .exit)) ≡ playCrossing (now (voice .entry)) (now (book .entry)) (now (store .entry)) (now (out .entry)) ⌝ }
 {
-    marshal::play(voice, book, store, sample_count, out)
+    marshal::play(voice, book, store, out)
 }

@@ -17,7 +17,8 @@ use Rattle.arith.proofs.Sum.{sum-ext, sum-abs-*, total-*, total-≤, total-+, t
 use Rattle.book.specs.Book.{sizesOf, impulse}
 use Rattle.book.specs.Check.{phaseSum}
 use Rattle.book.proofs.Accepted.{Accepted, sizes-bounded, difference-is, phaseSum-bound}
-use Rattle.values.specs.Values.{limitedWord, storeLevel, unit, phaseAt, offsetAt, coefficient, valueSum, levelValue, value}
+use Rattle.store.specs.Store.{storeLevel}
+use Rattle.values.specs.Values.{limitedWord, unit, phaseAt, offsetAt, coefficient, valueSum, levelValue, value}
 
 -- ---- a limited word
 
@@ -153,6 +154,6 @@ levelValue-bound b a words l P =
 pub levelValue-small : (b : List ℤ) → Accepted b → (words : List ℤ) (l P : ℕ) → l ≤ 4 → natAbs (levelValue b words l P) ≤ 2 ^ 29
 levelValue-small b a words l P h = le-trans (levelValue-bound b a words l P) (pow-mono {j = 29} (omega arith))
 
-pub value-small : (b : List ℤ) → Accepted b → (store : List ℤ) (S l P : ℕ) → l ≤ 4 → natAbs (value b store S l P) ≤ 2 ^ 29
+pub value-small : (b : List ℤ) → Accepted b → (store : List ℤ) (l P : ℕ) → l ≤ 4 → natAbs (value b store l P) ≤ 2 ^ 29
 unfolding value
-value-small b a store S l P h = levelValue-small b a (storeLevel store S l) l P h
+value-small b a store l P h = levelValue-small b a (storeLevel store l) l P h

@@ -6,14 +6,15 @@ use lib.IntN.{ℤ}
 use lib.ListN.{length, getD}
 use Rattle.book.specs.Book.{sizesOf}
 use Rattle.book.specs.Check.{bookNumber}
-use Rattle.levels.specs.Sizes.{levelStart}
+use Rattle.store.specs.Sizes.{levelStart}
+use Rattle.store.specs.Store.{sampleCount, topLevel}
 use Rattle.values.specs.declared.layout.Layout.{Layout}
 
--- the places are those of the levels of as many samples, and the store has room for levels 0..T
+-- the places are those that the store's header gives, and the store has room for levels 0..T
 pub record LevelsIn (store : List ℤ) (T : ℕ) (l : Layout) : Type 0 where
-  pub recorded-high : l .recorded ≤ 1048576
-  pub starts : (j : ℕ) → j < 6 → getD (l .starts) j 0 ≡ levelStart (l .recorded) j
-  pub room : levelStart (l .recorded) (T + 1) ≤ length store
+  pub samples-high : sampleCount store ≤ 1048576
+  pub starts : (j : ℕ) → j < 6 → getD (l .starts) j 0 ≡ levelStart (sampleCount store) (topLevel store) j
+  pub room : levelStart (sampleCount store) (topLevel store) (T + 1) ≤ length store
 
 -- the sizes are those of an accepted book
 pub record SizesIn (b : List ℤ) (l : Layout) : Type 0 where

@@ -4,18 +4,14 @@ use Prim.Native.Nat.{ℕ, suc, _+_, _-_, _*_, _/_, _%_, _^_}
 use lib.IntN.{ℤ, pos, negℤ, _+ℤ_, _-ℤ_, _*ℤ_}
 use Rattle.arith.specs.Floor.{near}
 use Rattle.arith.specs.Limit.{limit}
-use Rattle.arith.specs.Lists.{wordAt, part}
+use Rattle.arith.specs.Lists.{wordAt}
 use Rattle.arith.specs.Sum.{sum}
 use Rattle.book.specs.Book.{sizesOf, impulse, difference}
-use Rattle.levels.specs.Sizes.{levelLength, levelStart}
+use Rattle.store.specs.Store.{storeLevel}
 
 -- word i of level l, whose words are given, 0 outside; a word beyond ±2^(23+l) is read as that limit
 unfoldable pub limitedWord : List ℤ → ℕ → ℤ → ℤ
 limitedWord words l i = limit (negℤ (pos (2 ^ (23 + l)))) (pos (2 ^ (23 + l))) (wordAt words i)
-
--- the words of level l in a store for S samples
-unfoldable pub storeLevel : List ℤ → ℕ → ℕ → List ℤ
-storeLevel store S l = part store (levelStart S l) (levelLength S l)
 
 -- P counts 2^-(28+l) of a word of level l: t = P / unit
 unfoldable pub unit : ℕ → ℕ
@@ -45,5 +41,5 @@ valueSum b word l P =
 unfoldable pub levelValue : List ℤ → List ℤ → ℕ → ℕ → ℤ
 levelValue b words l P = near (valueSum b (limitedWord words l) l P) (16384 * unit l)
 
-unfoldable pub value : List ℤ → List ℤ → ℕ → ℕ → ℕ → ℤ
-value b store S l P = levelValue b (storeLevel store S l) l P
+unfoldable pub value : List ℤ → List ℤ → ℕ → ℕ → ℤ
+value b store l P = levelValue b (storeLevel store l) l P

@@ -177,7 +177,7 @@ pub fn steady_points(
     requires { ⌜ LayoutOf (now book) (now store) level layout × (level ≤ 4) × (length (now line) ≡ 209) × (1 ≤ length (now positions)) × (length (now positions) ≤ 128) × (length (now positions) % 2 ≡ 0) ⌝ }
     requires { ⌜ ((k : ℕ) → k < length (now positions) → (getD (now positions) 0 0 ≤ getD (now positions) k 0) × (getD (now positions) k 0 ≤ getD (now positions) 0 0 + k * unit level) × (getD (now positions) k 0 ≤ 2 ^ 60)) ⌝ }
     requires { ⌜ ((length (now table) ≡ 0 → ⊥) → TableOf (now book) (now table)) ⌝ }
-    ensures { λ _. ⌜ now (line .exit) ≡ overwrite (now (line .entry)) (128 - length (now (positions .entry))) (tabulate (length (now (positions .entry))) (λ j. value (now (book .entry)) (now (store .entry)) (layout .recorded) level (getD (now (positions .entry)) (length (now (positions .entry)) - suc j) 0))) ⌝ }
+    ensures { λ _. ⌜ now (line .exit) ≡ overwrite (now (line .entry)) (128 - length (now (positions .entry))) (tabulate (length (now (positions .entry))) (λ j. value (now (book .entry)) (now (store .entry)) level (getD (now (positions .entry)) (length (now (positions .entry)) - suc j) 0))) ⌝ }
 {
     let words = level_words(store, layout, level);
     level_points(line, positions, book, layout, words, level, table);

@@ -21,16 +21,16 @@ writtenBack voice p = playCrossed (p .number) (cond (eqb (p .number) 0) (wordsOf
 
 -- that is what the three calls leave: the voice read from its words, the play, and `returned`
 three-calls :
-    (voice b store : List ℤ) (S : ℕ) (out : List ℤ) (v : Voice) (a : Answer) (words : List ℤ) (n : ℕ) (left : List ℤ) →
+    (voice b store : List ℤ) (out : List ℤ) (v : Voice) (a : Answer) (words : List ℤ) (n : ℕ) (left : List ℤ) →
     v ≡ voiceOf voice →
-    played (a .number) (a .voice) words ≡ playAnswer b store S v out →
+    played (a .number) (a .voice) words ≡ playAnswer b store v out →
     crossed n left ≡ returned voice a →
-    playCrossed n left words ≡ writtenBack voice (playAnswer b store S (voiceOf voice) out)
+    playCrossed n left words ≡ writtenBack voice (playAnswer b store (voiceOf voice) out)
 unfolding returned writtenBack
-three-calls voice b store S out v a words n left read play back =
+three-calls voice b store out v a words n left read play back =
     ap (λ x. playCrossed (x .number) (x .voice) words) back
     ∙ ap (writtenBack voice) play
-    ∙ ap (λ u. writtenBack voice (playAnswer b store S u out)) read
+    ∙ ap (λ u. writtenBack voice (playAnswer b store u out)) read
 
 returns : tie.Need-returns
 unfolding playCrossing
@@ -59,7 +59,7 @@ returns-2 c =
     let v = p .before .before in
     let e = v .before .before in
     let s = e .before in
-    simp (eq-eqb _ _ (e .if1 .left)) (three-calls (s .args .voice .now) (s .args .book .now) (s .args .store .now) (s .args .sample-count) (s .args .out .now) _ _ _ _ _ (v .voice-of .ensures) (p .play .ensures) (r .returned .ensures))
+    simp (eq-eqb _ _ (e .if1 .left)) (three-calls (s .args .voice .now) (s .args .book .now) (s .args .store .now) (s .args .out .now) _ _ _ _ _ (v .voice-of .ensures) (p .play .ensures) (r .returned .ensures))
 
 pub play-spec : {M : Type 1} → statement M
 play-spec =

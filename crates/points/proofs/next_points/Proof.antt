@@ -28,7 +28,7 @@ module _ (s : tie.Start) where
   line = s .args .line .now
 
   abbrev make : Plan → ℤ
-  make = point (s .args .book .now) (s .args .store .now) (s .args .layout .recorded)
+  make = point (s .args .book .now) (s .args .store .now)
 
 -- a run of none left the line as it was
 module _ (n : tie.Else2) where

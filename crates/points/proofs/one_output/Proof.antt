@@ -19,7 +19,8 @@ use Rattle.control.specs.declared.Plan.{Plan}
 use Rattle.control.specs.Moves.{moveGlide, pointPlan, movePoint, moveOutput}
 use Rattle.points.specs.Points.{point}
 use Rattle.points.specs.Inner.{levelsPoint}
-use Rattle.values.specs.Values.{storeLevel, value}
+use Rattle.store.specs.Store.{storeLevel}
+use Rattle.values.specs.Values.{value}
 use Rattle.control.specs.Valid.{Valid}
 use Rattle.positions.specs.Runs.{controlAfter}
 use Rattle.points.specs.Runs.{runPoints}
@@ -147,10 +148,10 @@ point-of-requires-2 c κs =
     ((r .0 .0 .sizes, w .level-words3 .ensures .1, c .level-words4 .ensures .1), r .1)
 
 -- the points of the plans, from the words that the store has for their levels
-point-is : (b store : List ℤ) (S : ℕ) (p : Plan) {old new : List ℤ} {x : ℤ} → old ≡ storeLevel store S (p .old) → new ≡ storeLevel store S (p .new)
-    → x ≡ levelsPoint b old new p → x ≡ point b store S p
+point-is : (b store : List ℤ) (p : Plan) {old new : List ℤ} {x : ℤ} → old ≡ storeLevel store (p .old) → new ≡ storeLevel store (p .new)
+    → x ≡ levelsPoint b old new p → x ≡ point b store p
 unfolding point levelsPoint value
-point-is b store S p {old} {new} e f h = h ∙ ap₂ (λ o n. levelsPoint b o n p) e f
+point-is b store p {old} {new} e f h = h ∙ ap₂ (λ o n. levelsPoint b o n p) e f
 
 -- ---- both together
 
@@ -189,10 +190,9 @@ returns c =
     let s = start o in
     let line = s .args .line .now in
     let store = s .args .store .now in
-    let S = s .args .layout .recorded in
-    let make = point (b s) store S in
-    let first = point-is (b s) store S (q₁ .point-plan .result) (p₁ .before .before .level-words .ensures .0) (p₁ .before .level-words2 .ensures .0) (p₁ .point-of .ensures) in
-    let second = point-is (b s) store S (q₂ .point-plan2 .result) (p₂ .before .before .level-words3 .ensures .0) (p₂ .before .level-words4 .ensures .0) (p₂ .point-of2 .ensures) in
+    let make = point (b s) store in
+    let first = point-is (b s) store (q₁ .point-plan .result) (p₁ .before .before .level-words .ensures .0) (p₁ .before .level-words2 .ensures .0) (p₁ .point-of .ensures) in
+    let second = point-is (b s) store (q₂ .point-plan2 .result) (p₂ .before .before .level-words3 .ensures .0) (p₂ .before .level-words4 .ensures .0) (p₂ .point-of2 .ensures) in
     let written = two-written line (p₁ .point-of .result) (p₂ .point-of2 .result) (omega arith) in
     let points = points-are make (F s) (s .args .c) (one-is o) (q₁ .point-plan .ensures) first (two-is t) (q₂ .point-plan2 .ensures) second in (
       refl,

@@ -22,15 +22,15 @@ use Rattle.points.proofs.steady_run.Statement.{statement}
 use Rattle.points.proofs.steady_run.Tie as tie
 
 -- the values at the positions are the points of the plans
-points-are : (b store : List ℤ) (S F : ℕ) (c : Control) (l : ℕ) (ps : List ℕ) (n : ℕ)
+points-are : (b store : List ℤ) (F : ℕ) (c : Control) (l : ℕ) (ps : List ℕ) (n : ℕ)
     → ((k : ℕ) → k < n → (firstPlan F c k ≡ steadyPlan l (getD ps (2 * k) 0)) × (secondPlan F c k ≡ steadyPlan l (getD ps (2 * k + 1) 0)))
-    → tabulate (2 * n) (λ j. value b store S l (getD ps (2 * n - suc j) 0)) ≡ runPoints (point b store S) F c n
-points-are b store S F c l ps n plans =
-    run-tabulate (point b store S) F c (λ k. value b store S l (getD ps k 0)) n
+    → tabulate (2 * n) (λ j. value b store l (getD ps (2 * n - suc j) 0)) ≡ runPoints (point b store) F c n
+points-are b store F c l ps n plans =
+    run-tabulate (point b store) F c (λ k. value b store l (getD ps k 0)) n
     (λ k h.
     let p = plans k h in
-    let is : (P : ℕ) → value b store S l P ≡ point b store S (steadyPlan l P) = λ P. sym (steady-point b store S l P) in
-    (is (getD ps (2 * k) 0) ∙ ap (point b store S) (sym (p .0)), is (getD ps (2 * k + 1) 0) ∙ ap (point b store S) (sym (p .1))))
+    let is : (P : ℕ) → value b store l P ≡ point b store (steadyPlan l P) = λ P. sym (steady-point b store l P) in
+    (is (getD ps (2 * k) 0) ∙ ap (point b store) (sym (p .0)), is (getD ps (2 * k + 1) 0) ∙ ap (point b store) (sym (p .1))))
 
 -- the first n positions, as the code lends them
 module _ (ps : List ℕ) (n : ℕ) (room : n ≤ length ps) where
@@ -78,7 +78,7 @@ returns c =
     let s = first p in
     let e = p .steady-positions .ensures .0 in
     let line = s .args .line .now in
-    let make = point (s .args .book .now) (s .args .store .now) (s .args .layout .recorded) in
+    let make = point (s .args .book .now) (s .args .store .now) in
     let none = overwrite-none line 128 ∙ ap (λ n. overwrite line (128 - 2 * n) (runPoints make (s .args .layout .fade) (s .args .c) n)) (sym (c .if1 .taken)) in
     ((e .0, e .1), none)
 
@@ -135,15 +135,14 @@ returns-2 c =
     let line = s .args .line .now in
     let b = s .args .book .now in
     let store = s .args .store .now in
-    let S = s .args .layout .recorded in
     let l = s .args .c .fade .from in
     let plans : (k : ℕ) → k < made p → (firstPlan (s .args .layout .fade) (s .args .c) k ≡ steadyPlan l (getD q (2 * k) 0)) × (secondPlan (s .args .layout .fade) (s .args .c) k ≡ steadyPlan l (getD q (2 * k + 1) 0)) = λ k h.
     let x = e .1 .0 k h in
     (x .0 ∙ ap (steadyPlan l) (sym (at (2 * k) (omega arith))), x .1 ∙ ap (steadyPlan l) (sym (at (2 * k + 1) (omega arith)))) in
-    let points = points-are b store S (s .args .layout .fade) (s .args .c) l q (made p) plans in (
+    let points = points-are b store (s .args .layout .fade) (s .args .c) l q (made p) plans in (
       (e .0 .0, e .0 .1),
       c .before .steady-points .ensures
-          ∙ ap (λ n. overwrite line (128 - n) (tabulate n (λ j. value b store S l (getD q (n - suc j) 0)))) (lent-length (ps p) n (room p))
+          ∙ ap (λ n. overwrite line (128 - n) (tabulate n (λ j. value b store l (getD q (n - suc j) 0)))) (lent-length (ps p) n (room p))
           ∙ ap (overwrite line (128 - n)) points,
     )
 

@@ -3,20 +3,20 @@ use borrow.Author.Needs.{needs}
 use borrow.Author.Tests.{ne-eqb}
 use mathlib.Core.Path.{_≡_, sym, ap, ap₂, _∙_}
 use mathlib.Core.List.{List}
-use Prim.Native.Nat.{ℕ, _+_, _≤_}
-use native.Mathlib.Numerals.{add-one}
+use Prim.Native.Nat.{ℕ}
 use lib.IntN.{ℤ}
 use lib.ListN.{length}
 use Rattle.book.specs.Book.{sizesOf}
+use Rattle.book.specs.Number.{_otherwise_}
+use Rattle.book.specs.Check.{bookNumber}
 use Rattle.book.proofs.Numbers.{none-first, none-second}
-use Rattle.levels.specs.Sizes.{levelStart, storeLength}
-use Rattle.levels.specs.Build.{storeNumber}
-use Rattle.levels.proofs.Fitting.{Fitting, fitting}
+use Rattle.store.specs.Store.{topLevel}
+use Rattle.store.specs.Check.{storeNumber}
 use Rattle.player.specs.declared.Voice.{Voice}
 use Rattle.player.specs.Outputs.{voiceAfter, outputs}
 use Rattle.refusals.specs.Refusals.{playStateNumber, playNumber, pointBound}
 use Rattle.player.specs.Calls.{played, playAnswer}
-use Rattle.refusals.proofs.Valid.{valid-of, history-of}
+use Rattle.refusals.proofs.Valid.{same-top, valid-of, history-of}
 use Rattle.player.proofs.Voice.play.Statement.{statement}
 use Rattle.player.proofs.Voice.play.Tie as tie
 
@@ -34,7 +34,7 @@ module _ (s : tie.Start) where
   out₀ = s .args .out .now
 
   abbrev number : ℕ
-  number = playNumber b store (s .args .sample-count) (v .control) pointBound (v .history) (length out₀)
+  number = playNumber b store (v .control) pointBound (v .history) (length out₀)
 
 play-number-requires : tie.Need-play-number-requires
 play-number-requires c κs = search needs
@@ -55,23 +55,25 @@ module _ (c : tie.Else1) where
   no-number : number start ≡ 0
   no-number = sym (c .before .play-number .ensures) ∙ c .if1 .left
 
-  room : Fitting (b start) (start .args .sample-count) (v start .control .top) (length (store start))
-  unfolding playNumber
-  room = fitting _ _ _ _ (none-first _ _ no-number)
+  abbrev state-number : ℕ
+  state-number = playStateNumber (sizesOf (b start) .fade) (topLevel (store start)) (v start .control) pointBound (v start .history) (length (out₀ start))
 
-  no-state-number : playStateNumber (sizesOf (b start) .fade) (v start .control) pointBound (v start .history) (length (out₀ start)) ≡ 0
+  no-book-number : bookNumber (b start) ≡ 0
   unfolding playNumber
-  no-state-number = none-second (storeNumber (b start) (start .args .sample-count) (v start .control .top) (length (store start))) _ no-number
+  no-book-number = none-first _ _ no-number
+
+  past-book : storeNumber (store start) otherwise state-number ≡ 0
+  unfolding playNumber
+  past-book = none-second (bookNumber (b start)) _ no-number
+
+  no-state-number : state-number ≡ 0
+  no-state-number = none-second (storeNumber (store start)) _ past-book
 
 fill-requires : tie.Need-fill-requires
-unfolding storeLength
 fill-requires c κs =
     let e = c .before in
-    let s = start e in
-    let r = room e in
     let n = no-state-number e in
-    let words : levelStart (s .args .sample-count) (v s .control .top + 1) ≤ length (store s) = rw add-one (r .room) in
-    ((r .book, r .samples-high, valid-of _ _ _ _ _ n), (words, history-of _ _ _ _ _ n))
+    ((no-book-number e, none-first _ _ (past-book e), same-top _ _ _ _ _ _ n), (valid-of _ _ _ _ _ _ n, history-of _ _ _ _ _ _ n))
 
 same-length : tie.Need-same-length
 same-length c = search needs
@@ -82,8 +84,8 @@ returns-2 c =
     let f = c .before in
     let e = f .before .before in
     let s = start e in
-    let voice : f .fill .result ≡ voiceAfter (b s) (store s) (s .args .sample-count) (v s) (length (out₀ s)) = f .fill .ensures .0 in
-    let words : f .fill .last .1 .1 .1 .1 .0 ≡ outputs (b s) (store s) (s .args .sample-count) (v s) (length (out₀ s)) = f .fill .ensures .1 in
+    let voice : f .fill .result ≡ voiceAfter (b s) (store s) (v s) (length (out₀ s)) = f .fill .ensures .0 in
+    let words : f .fill .last .1 .1 .1 .0 ≡ outputs (b s) (store s) (v s) (length (out₀ s)) = f .fill .ensures .1 in
     simp (no-number e) (ap₂ (played 0) voice words)
 
 pub play-spec : {M : Type 1} → statement M

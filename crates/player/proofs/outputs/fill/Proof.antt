@@ -1,14 +1,11 @@
 -- `player::outputs::fill` meets its contract: either call of `fill_by` does, with a book's table or with none. Assumes nothing.
-use mathlib.Core.Path.{_≡_, refl, ap, _∙_}
+use mathlib.Core.Path.{refl, sym, subst}
 use mathlib.Core.List.{List}
 use native.Mathlib.Omega.{arith}
 use borrow.Author.Needs.{needs}
-use Prim.Native.Nat.{ℕ}
 use lib.IntN.{ℤ}
 use Rattle.book.proofs.Accepted.{Accepted, accepted, sizes-bounded}
 use Rattle.values.specs.Layout.{LayoutOf}
-use Rattle.player.specs.declared.Voice.{Voice}
-use Rattle.player.specs.Outputs.{voiceAfter, outputs}
 use Rattle.player.proofs.outputs.fill.Statement.{statement}
 use Rattle.player.proofs.outputs.fill.Tie as tie
 
@@ -28,19 +25,7 @@ module _ (l : tie.After-layout-of) where
   start = l .before
 
   layout-is : LayoutOf (b start) (start .args .store .now) (start .args .v .control .top) (l .layout-of .result)
-  layout-is = l .layout-of .ensures .1 (start .args .store .now) (start .args .v .control .top) (start .pre .1 .0)
-
-  recorded-is : l .layout-of .result .recorded ≡ start .args .sample-count
-  recorded-is = l .layout-of .ensures .0
-
-  -- so that what is filled by it is filled from so many samples
-  filled : (v : Voice) (n : ℕ) {w : Voice} {words : List ℤ}
-      → (w ≡ voiceAfter (b start) (start .args .store .now) (l .layout-of .result .recorded) v n) × (words ≡ outputs (b start) (start .args .store .now) (l .layout-of .result .recorded) v n)
-      → (w ≡ voiceAfter (b start) (start .args .store .now) (start .args .sample-count) v n) × (words ≡ outputs (b start) (start .args .store .now) (start .args .sample-count) v n)
-  filled v n e = (
-    e .0 ∙ ap (λ S. voiceAfter (b start) (start .args .store .now) S v n) recorded-is,
-    e .1 ∙ ap (λ S. outputs (b start) (start .args .store .now) S v n) recorded-is,
-  )
+  layout-is = subst (λ T. LayoutOf (b start) (start .args .store .now) T (l .layout-of .result)) (sym (start .pre .0 .2)) (l .layout-of .ensures)
 
 table-pays-requires : tie.Need-table-pays-requires
 table-pays-requires c κs =
@@ -65,13 +50,13 @@ fill-by-requires : tie.Need-fill-by-requires
 fill-by-requires c κs =
     let r = c .before .before .before in
     let l = r .before .before .before .before in
-    ((λ n. r .stage-rows .ensures), (layout-is l, start l .pre .0 .2, start l .pre .1 .1))
+    ((λ n. r .stage-rows .ensures), (layout-is l, start l .pre .1 .0, start l .pre .1 .1))
 
 same-length : tie.Need-same-length
 same-length c = search needs
 
 returns : tie.Need-returns
-returns c = filled (c .before .before .before .before .before .before .before .before .before) _ _ (c .before .fill-by .ensures)
+returns c = c .before .fill-by .ensures
 
 -- ---- without one
 
@@ -87,13 +72,13 @@ part-fill-by-end c = search needs
 fill-by-requires-2 : tie.Need-fill-by-requires-2
 fill-by-requires-2 c κs =
     let l = c .before .before .before .before .before in
-    ((λ some. absurd (some refl)), (layout-is l, start l .pre .0 .2, start l .pre .1 .1))
+    ((λ some. absurd (some refl)), (layout-is l, start l .pre .1 .0, start l .pre .1 .1))
 
 same-length-2 : tie.Need-same-length-2
 same-length-2 c = search needs
 
 returns-2 : tie.Need-returns-2
-returns-2 c = filled (c .before .before .before .before .before .before .before) _ _ (c .before .fill-by2 .ensures)
+returns-2 c = c .before .fill-by2 .ensures
 
 pub fill-spec : {M : Type 1} → statement M
 fill-spec =

@@ -32,7 +32,7 @@ voiceWith control line = record { control = control; history = drop 128 line }
 
 abbrev Inv-loop : tie.InvT-loop
 Inv-loop table book store layout out₀ decimation control₀ line₀ i₀ out control line i =
-    Filled book store (layout .recorded) (voiceWith control₀ line₀) out₀ control line out i
+    Filled book store (voiceWith control₀ line₀) out₀ control line out i
 
 abbrev μ-loop : tie.MeasureT-loop
 μ-loop table book store layout out₀ decimation control₀ line₀ i₀ out control line i = length out₀ - i
@@ -45,9 +45,6 @@ module _ (s : tie.Start Inv-loop μ-loop) where
 
   abbrev store : List ℤ
   store = s .args .store .now
-
-  abbrev S : ℕ
-  S = s .args .layout .recorded
 
   abbrev v : Voice
   v = s .args .v
@@ -113,7 +110,7 @@ loop-holds c =
       long = ap length (line-is c) ∙ length-line (history c) (history-length c);
       points = refl;
       small = rw (line-is c) (line-every (λ x. natAbs x ≤ 2 ^ 29) (omega arith) (history c) (small₀ c));
-      words = paste-none (out₀ s) 0 (outputs (b s) (store s) (S s) (voice₀ c) (length (out₀ s)));
+      words = paste-none (out₀ s) 0 (outputs (b s) (store s) (voice₀ c) (length (out₀ s)));
     }
 
 -- ---- a turn
@@ -125,7 +122,7 @@ module _ (a : tie.At-loop Inv-loop μ-loop) where
   abbrev i : ℕ
   i = a .loop .i
 
-  filled : Filled (b s) (store s) (S s) (voice₀ (a .before)) (out₀ s) (a .loop .control) (a .loop .line) (a .loop .out) i
+  filled : Filled (b s) (store s) (voice₀ (a .before)) (out₀ s) (a .loop .control) (a .loop .line) (a .loop .out) i
   filled = a .loop .inv
 
   out-length : length (a .loop .out) ≡ length (out₀ s)
@@ -187,8 +184,8 @@ module _ (n : tie.After-next-points Inv-loop μ-loop) where
       let l : made ≤ length (turn .loop .out) - i turn = le-trans (n .next-points .ensures .0 .1) (le-trans (le-of-eq count-is) (min-le-right 64 _)) in
       omega (arith, l, out-length turn, filled turn .count)
 
-  line-e : line₁ ≡ overwrite (turn .loop .line) (128 - 2 * made) (runPoints (point (b first) (store first) (S first)) (sizesOf (b first) .fade) (turn .loop .control) made)
-  line-e = n .next-points .ensures .1 ∙ ap (λ F. overwrite (turn .loop .line) (128 - 2 * made) (runPoints (point (b first) (store first) (S first)) F (turn .loop .control) made)) (fade-is turn)
+  line-e : line₁ ≡ overwrite (turn .loop .line) (128 - 2 * made) (runPoints (point (b first) (store first)) (sizesOf (b first) .fade) (turn .loop .control) made)
+  line-e = n .next-points .ensures .1 ∙ ap (λ F. overwrite (turn .loop .line) (128 - 2 * made) (runPoints (point (b first) (store first)) F (turn .loop .control) made)) (fade-is turn)
 
   long : length line₁ ≡ 209
   long = line-long (filled turn) (length-history (turn .before)) made few room line-e
@@ -244,14 +241,14 @@ returns c =
     let l = a .before in
     let n = length (out₀ u) in
     let e : i a ≡ n = omega (arith, out-length a, filled a .count) in
-    let history : c .history-of .result ≡ voiceAfter (b u) (store u) (S u) (voice₀ l) (i a) .history = c .history-of .ensures ∙ end-history (filled a) (length-history l) in
-    let w : List ℤ = outputs (b u) (store u) (S u) (voice₀ l) n in
-    let all : length w ≡ n = length-outputs (b u) (store u) (S u) (voice₀ l) n in (
+    let history : c .history-of .result ≡ voiceAfter (b u) (store u) (voice₀ l) (i a) .history = c .history-of .ensures ∙ end-history (filled a) (length-history l) in
+    let w : List ℤ = outputs (b u) (store u) (voice₀ l) n in
+    let all : length w ≡ n = length-outputs (b u) (store u) (voice₀ l) n in (
       ap₂ {C = Voice} (λ d h. record { control = d; history = h }) (filled a .control) history
-          ∙ ap₂ (voiceAfter (b u) (store u) (S u)) (voice-is l) e,
+          ∙ ap₂ (voiceAfter (b u) (store u)) (voice-is l) e,
       filled a .words
           ∙ paste-whole (out₀ u) w (i a) (e ∙ sym all) all
-          ∙ ap (λ x. outputs (b u) (store u) (S u) x n) (voice-is l),
+          ∙ ap (λ x. outputs (b u) (store u) x n) (voice-is l),
     )
 
 pub fill-by-spec : {M : Type 1} → statement M
