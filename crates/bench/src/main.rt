@@ -14,7 +14,7 @@ fn case(letter: u8, book: &[i32], samples: &[i16], v: Voice, out: &mut [i16]) {
     let mut store = [0i32; 16];
     let c = v.control;
     levels::build(book, samples, c.top, &mut store);
-    v.play(book, &store, samples.len(), out);
+    v.play(book, &store, out);
     io::write_all(1, &[letter]);
     print::samples(out);
 }

@@ -1,5 +1,5 @@
-// Facts of the book's check and the level builder that document 01 states and does not star: every number 1 to 9, the first of two
-// that hold at once, and what a store holds afterwards. One line each.
+// Facts of the book's check, the level builder and the store's check that documents 01 and 02 state and do not star: every number of theirs, the
+// first of two that hold at once, and what a store holds afterwards. One line each.
 
 // Document 01's book K.
 const K: [i32; 11] = [2, 1, 0, 0, 1, 0, 16384, 16384, -16384, 16384, 16384];
@@ -138,7 +138,7 @@ fn build_in(book: &[i32], samples: &[i16], top: u32, store: &mut [i32], room: us
 
 // The same with a store of nines, and every word of it afterwards.
 fn built(book: &[i32], samples: &[i16], top: u32, room: usize) {
-    let mut store = [9i32; 8];
+    let mut store = [9i32; 16];
     build_in(book, samples, top, &mut store, room);
     print::integers(&store);
 }
@@ -153,20 +153,20 @@ fn ramp(top: u32, room: usize) {
 fn no_samples() {
     let samples = [0i16; 1];
     let k = K;
-    built(&k, &samples[..0], 1, 8);
+    built(&k, &samples[..0], 1, 16);
     built(&k[..4], &samples[..0], 5, 0);
 }
 
 fn smooth() {
     let samples = [-3i16, 5, -7, 9, -32768];
     let book = [2, 1, 1, 0, 1, 0, 16384, 16384, -16384, 8192, 4096, 16384];
-    built(&book, &samples, 1, 8);
+    built(&book, &samples, 1, 16);
 }
 
 fn faint() {
     let samples = [-32i16, 1, -33, 1, -96];
     let book = [2, 1, 0, 0, 1, 0, 16384, 16384, -16384, 1, 16384];
-    built(&book, &samples, 1, 8);
+    built(&book, &samples, 1, 16);
 }
 
 fn checks() {
@@ -181,19 +181,83 @@ fn checks() {
 }
 
 fn stores() {
-    ramp(0, 8);
+    ramp(0, 16);
+    ramp(1, 16);
+    ramp(1, 9);
     ramp(1, 8);
-    ramp(1, 5);
-    ramp(1, 4);
-    ramp(4, 8);
-    ramp(5, 8);
+    ramp(4, 16);
+    ramp(5, 16);
     no_samples();
     ramp(5, 0);
     smooth();
     faint();
 }
 
+// A ramp's store of 9 words with word i changed to x: S 3, T 1 and the lengths 3 and 2 stand first.
+fn store_with(i: usize, x: i32) -> [i32; 9] {
+    let samples = [0i16, 1000, 2000];
+    let mut store = [0i32; 9];
+    levels::build(&K, &samples, 1, &mut store);
+    if i < 9 {
+        store[i] = x;
+        return store;
+    }
+    store
+}
+
+// A name, a value x, and the check's number for such a store.
+fn header(name: &[u8], i: usize, x: i32) {
+    let store = store_with(i, x);
+    io::write_all(1, name);
+    print::next_integer(x);
+    print::next_number(store::check(&store));
+    print::end_line();
+}
+
+// S and T out of range; in range, but of a longer store; of a shorter one.
+fn named() {
+    header(b"S", 0, 3);
+    header(b"S", 0, 0);
+    header(b"S", 0, -3);
+    header(b"S", 0, 1048577);
+    header(b"S", 0, 1048576);
+    header(b"S", 0, 4);
+    header(b"S", 0, 2);
+    header(b"T", 1, -1);
+    header(b"T", 1, 5);
+    header(b"T", 1, 4);
+    header(b"T", 1, 2);
+    header(b"T", 1, 0);
+}
+
+// Written lengths, and a word of a level.
+fn written() {
+    header(b"length 0", 2, 2);
+    header(b"length 0", 2, 4);
+    header(b"length 1", 3, 1);
+    header(b"length 1", 3, -2);
+    header(b"word", 4, -2147483648);
+}
+
+// The first words of such a store.
+fn cut() {
+    let words = [3, 1, 3, 2, 0, 256000, 512000, 0, 512000];
+    print::number(store::check(&words[..0]));
+    print::next_number(store::check(&words[..1]));
+    print::next_number(store::check(&words[..2]));
+    print::next_number(store::check(&words[..8]));
+    print::next_number(store::check(&words));
+    print::end_line();
+}
+
+fn headers() {
+    named();
+    written();
+    cut();
+}
+
 fn main() {
     checks();
     stores();
+    headers();
 }

@@ -65,7 +65,7 @@ fn checked(c: u64, block: &[i16]) -> u64 {
 
 // Block n, after what is done before it.
 fn played(v: Voice, n: u32, book: &[i32], store: &[i32], block: &mut [i16]) -> Voice {
-    steered(v, n).play(book, store, 32768, block).voice
+    steered(v, n).play(book, store, block).voice
 }
 
 // Plays 250 blocks, and hands back the check number of all samples.
@@ -89,7 +89,7 @@ fn last_two(block: &[i16]) {
     }
 }
 
-// Builds the levels 0 to 2 of the hum.
+// Builds the store of the hum, with the levels 0 to 2.
 fn built(book: &Book, store: &mut Store) {
     let mut samples = [0i16; 32768];
     hum(&mut samples);

@@ -1,4 +1,4 @@
-// Facts of the player that document 01 states and does not star: glides, limits, and every number of every call, with the first of two
+// Facts of the player that documents 01 and 02 state and do not star: glides, limits, and every number of every call, with the first of two
 // that hold at once. A line each: what is called, the number, and whether the voice came back as it was.
 use control::Card;
 use control::Order;
@@ -12,6 +12,9 @@ const K: [i32; 11] = [2, 1, 0, 0, 1, 0, 16384, 16384, -16384, 16384, 16384];
 
 // K with a fade of 4 points.
 const SLOW: [i32; 11] = [2, 1, 0, 0, 4, 0, 16384, 16384, -16384, 16384, 16384];
+
+// A silent store of 3 samples with top level 1: S, T, two lengths, 3 + 2 words.
+const SILENT: [i32; 9] = [3, 1, 3, 2, 0, 0, 0, 0, 0];
 
 // A position past the last, 2^60.
 const FAR: u64 = 1152921504606846977;
@@ -74,9 +77,8 @@ fn gliding(target: f32, count: u32) -> Voice {
 
 // One output more, with its rate.
 fn one_output(v: Voice) -> Voice {
-    let store = [0i32; 5];
     let mut out = [0i16; 1];
-    let w = v.play(&K, &store, 3, &mut out).voice;
+    let w = v.play(&K, &SILENT, &mut out).voice;
     let c = w.control;
     print::next_decimal(c.rate);
     w
@@ -105,10 +107,8 @@ fn sought(label: &[u8], v: Voice, position: u64) {
     line(label, v, v.seek(position));
 }
 
-// A play of a silent store.
-fn played(label: &[u8], v: Voice, book: &[i32], samples: usize, out: &mut [i16]) {
-    let store = [0i32; 5];
-    line(label, v, v.play(book, &store, samples, out));
+fn played(label: &[u8], v: Voice, book: &[i32], store: &[i32], out: &mut [i16]) {
+    line(label, v, v.play(book, store, out));
 }
 
 fn orders() {
@@ -141,7 +141,7 @@ fn state(label: &[u8], v: Voice) {
     let mut out = [7i16; 2];
     jumped(label, v, 1.5);
     sought(label, v, 5);
-    played(label, v, &SLOW, 3, &mut out);
+    played(label, v, &SLOW, &SILENT, &mut out);
 }
 
 // A fresh voice with a field changed.
@@ -197,14 +197,14 @@ fn pairs() {
 }
 
 // A play of two outputs, and what they are afterwards.
-fn lent(label: &[u8], v: Voice, book: &[i32], samples: usize) {
+fn lent(label: &[u8], v: Voice, book: &[i32], store: &[i32]) {
     let mut out = [7i16; 2];
-    played(label, v, book, samples, &mut out);
+    played(label, v, book, store, &mut out);
     print::samples(&out);
 }
 
 fn lent_book(label: &[u8], book: &[i32]) {
-    lent(label, fresh(), book, 3);
+    lent(label, fresh(), book, &SILENT);
 }
 
 // Books of a wrong length, or with sizes or words out of range.
@@ -251,24 +251,72 @@ fn words() {
     lent_book(b"play 7", &heavy);
 }
 
-fn lent_samples(label: &[u8], v: Voice, samples: usize) {
-    lent(label, v, &K, samples);
+fn lent_store(label: &[u8], store: &[i32]) {
+    lent(label, fresh(), &K, store);
 }
 
+// The silent store with word i of its header changed to x.
+fn header_with(i: usize, x: i32) -> [i32; 9] {
+    let mut store = SILENT;
+    if i < 4 {
+        store[i] = x;
+        return store;
+    }
+    store
+}
+
+fn lent_header(label: &[u8], i: usize, x: i32) {
+    let store = header_with(i, x);
+    lent_store(label, &store);
+}
+
+// Stores that are cut short, or name an S or a T out of range.
 fn stores() {
-    let v = fresh();
-    lent_samples(b"play S 0", v, 0);
-    lent_samples(b"play S 1048577", v, 1048577);
-    lent_samples(b"play T 5", damage::with(v, damage::TOP, 5), 3);
-    lent_samples(b"play 9", v, 4);
-    lent_samples(b"play 9 and 13", damage::with(v, damage::TO, 2), 4);
-    lent_samples(b"play", v, 3);
+    lent_store(b"play no words", &SILENT[..0]);
+    lent_store(b"play one word", &SILENT[..1]);
+    lent_store(b"play two words", &SILENT[..2]);
+    lent_store(b"play 9", &SILENT[..8]);
+    lent_header(b"play S 0", 0, 0);
+    lent_header(b"play S -3", 0, -3);
+    lent_header(b"play S 1048577", 0, 1048577);
+    lent_header(b"play S 4", 0, 4);
+    lent_header(b"play T -1", 1, -1);
+    lent_header(b"play T 5", 1, 5);
+    lent_header(b"play T 2", 1, 2);
+}
+
+// A studio's store with a wrong length, and a store of another top level than the voice's.
+fn headers() {
+    lent_header(b"play 18, level 0", 2, 2);
+    lent_header(b"play 18, level 1", 3, 3);
+    lent_header(b"play 19", 1, 0);
+    lent_store(b"play", &SILENT);
+}
+
+fn lent_voice(label: &[u8], field: u32, x: u64, store: &[i32]) {
+    lent(label, damage::with(fresh(), field, x), &K, store);
+}
+
+// Conditions of a book, a store and a voice at once.
+fn mixed() {
+    lent(b"play 1 and 9", fresh(), &K[..4], &SILENT[..0]);
+    lent_voice(
+        b"play 18 and 13",
+        damage::TO,
+        2,
+        &[3, 1, 2, 2, 0, 0, 0, 0, 0],
+    );
+    lent_voice(b"play 13 and 19", damage::TOP, 5, &SILENT);
+    lent_voice(b"play 19, T 0", damage::TOP, 0, &SILENT);
+    lent_voice(b"play 19, T 2", damage::TOP, 2, &SILENT);
+    lent_voice(b"play 19 and 14", damage::STEP, 1, &[3, 0, 3, 0, 0, 0]);
+    lent_voice(b"play 19 and 17", damage::POINT, LOUD, &[3, 0, 3, 0, 0, 0]);
 }
 
 // A play of no outputs leaves the voice as it was.
 fn no_outputs() {
     let mut out = [7i16; 1];
-    played(b"play 0", fresh(), &K, 3, &mut out[..0]);
+    played(b"play 0", fresh(), &K, &SILENT, &mut out[..0]);
 }
 
 fn main() {
@@ -285,5 +333,7 @@ fn main() {
     sizes();
     words();
     stores();
+    headers();
+    mixed();
     no_outputs();
 }

@@ -55,20 +55,20 @@ fn sought(v: Voice, position: u64) -> Voice {
 }
 
 // A play into the whole slice.
-fn filled(v: Voice, book: &[i32], store: &[i32], samples: usize, out: &mut [i16]) -> Voice {
+fn filled(v: Voice, book: &[i32], store: &[i32], out: &mut [i16]) -> Voice {
     lines::number(b"play", out.len() as u64);
-    let w = answered(v.play(book, store, samples, out));
+    let w = answered(v.play(book, store, out));
     lines::samples(b"out", out);
     w
 }
 
 // A play of at most 200 outputs, whose words are 77 before it.
-fn played(v: Voice, book: &[i32], store: &[i32], samples: usize, count: usize) -> Voice {
+fn played(v: Voice, book: &[i32], store: &[i32], count: usize) -> Voice {
     let mut room = [77i16; 200];
     if 200 < count {
         return v;
     }
-    filled(v, book, store, samples, &mut room[..count])
+    filled(v, book, store, &mut room[..count])
 }
 
 // A jump, a glide or a seek.
@@ -82,19 +82,19 @@ fn steered(v: Voice, call: u64) -> Voice {
     sought(v, call - SEEK)
 }
 
-fn called(v: Voice, call: u64, book: &[i32], store: &[i32], samples: usize) -> Voice {
+fn called(v: Voice, call: u64, book: &[i32], store: &[i32]) -> Voice {
     if call < PLAY {
         return steered(v, call);
     }
-    played(v, book, store, samples, (call - PLAY) as usize)
+    played(v, book, store, (call - PLAY) as usize)
 }
 
 // All calls, each from the voice that the last one handed back.
-pub fn all(voice: Voice, calls: &[u64], book: &[i32], store: &[i32], samples: usize) -> Voice {
+pub fn all(voice: Voice, calls: &[u64], book: &[i32], store: &[i32]) -> Voice {
     let mut v = voice;
     let mut k = 0;
     while k < calls.len() {
-        v = called(v, calls[k], book, store, samples);
+        v = called(v, calls[k], book, store);
         k += 1;
     }
     v

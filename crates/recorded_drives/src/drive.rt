@@ -19,11 +19,11 @@ fn built(book: &[i32], samples: &[i16], top: u32, store: &mut [i32]) {
     lines::words(b"store", store);
 }
 
-// Prints a drive. Its store has 120 words, enough for levels 0..3 of 64 samples; they are 77 before they are built.
+// Prints a drive. Its store has 126 words, enough for header and levels 0..3 of 64 samples; they are 77 before they are built.
 pub fn text(seed: u64, book: &[i32], samples: &[i16], top: u32, rate: u32, list: &[u64]) {
-    let mut store = [77i32; 120];
+    let mut store = [77i32; 126];
     given(seed, book, samples, top);
     built(book, samples, top, &mut store);
     let v = calls::opened(rate, top);
-    lines::voice(calls::all(v, list, book, &store, samples.len()));
+    lines::voice(calls::all(v, list, book, &store));
 }

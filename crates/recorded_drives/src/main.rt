@@ -3,24 +3,24 @@
 
 mod calls; // a drive's calls
 mod drive; // a drive
-mod drive_1067;
-mod drive_1853;
-mod drive_2325;
-mod drive_2560;
-mod drive_562;
-mod drive_567;
-mod drive_757;
-mod drive_988;
+mod drive_1277;
+mod drive_16976;
+mod drive_17795;
+mod drive_17927;
+mod drive_19363;
+mod drive_4047;
+mod drive_6290;
+mod drive_8735;
 mod lines; // lines of text
 mod rates; // rates by their bits
 
 fn main() {
-    drive_562::text();
-    drive_567::text();
-    drive_757::text();
-    drive_988::text();
-    drive_1067::text();
-    drive_1853::text();
-    drive_2325::text();
-    drive_2560::text();
+    drive_1277::text();
+    drive_4047::text();
+    drive_6290::text();
+    drive_8735::text();
+    drive_16976::text();
+    drive_17795::text();
+    drive_17927::text();
+    drive_19363::text();
 }

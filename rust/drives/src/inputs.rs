@@ -1,22 +1,29 @@
-//! Random inputs: books, recordings, stores, lists of calls and voices, whole
-//! and damaged, with a leaning towards every limit.
+//! Random inputs: books, recordings, lists of calls and voices, whole and
+//! damaged, with a leaning towards every limit. Stores have a module of their own.
 
+use crate::call::Call;
 use crate::record::{
     set_wide, wide, words_of, Words, FADE, GLIDE_COUNT, GLIDE_DONE, GLIDE_FROM, GLIDE_TO, HISTORY,
     LEVEL, NEXT_LEVEL, POSITION, RATE, TOP,
 };
-use renderer::book::assemble;
-use renderer::exact::{Call, Setting};
+use crate::EDITION;
+use renderer::book::{assemble, book_number, FIRST_N};
+use renderer::exact::Setting;
 use renderer::levels::level_lengths;
 use renderer::random::{
     bad_rate, free_voice, random_book, random_calls, random_rate, random_recording, wild_i32,
-    wild_u32, wild_u64, Rng,
+    wild_u64, Rng,
 };
 use renderer::voice::{rate_out_of_range, POINTS};
-use tone::{MOST_OUTPUTS, MOST_SAMPLES, VOICE_WORDS};
+use tone::{MOST_OUTPUTS, VOICE_WORDS};
 
 /// A sample of level 0, in the unit of positions.
 const SAMPLE: u64 = 1 << 28;
+
+/// An unsigned 32-bit number that is often near an edge.
+pub fn wild_u32(rng: &mut Rng) -> u32 {
+    wild_i32(rng) as u32
+}
 
 // ---------------------------------------------------------------- books
 
@@ -24,7 +31,7 @@ const SAMPLE: u64 = 1 << 28;
 pub fn accepted_book(rng: &mut Rng) -> Vec<i32> {
     match rng.below(3) {
         0 => limit_book(rng),
-        _ => random_book(rng),
+        _ => random_book(rng, FIRST_N),
     }
 }
 
@@ -120,7 +127,8 @@ fn any_at(rng: &mut Rng, words: &[i32]) -> Option<usize> {
     (length > 0).then(|| rng.below(length) as usize)
 }
 
-fn damage_any(rng: &mut Rng, words: &mut [i32]) {
+/// Sets some word to anything.
+pub fn damage_any(rng: &mut Rng, words: &mut [i32]) {
     if let Some(at) = any_at(rng, words) {
         words[at] = wild_i32(rng);
     }
@@ -178,7 +186,7 @@ fn damage_first(rng: &mut Rng, words: &mut [i32]) {
 
 /// The parts of a book whose sizes and length fit each other: N and M.
 fn fitting_sizes(words: &[i32]) -> Option<(usize, usize)> {
-    let number = renderer::check_book(words);
+    let number = book_number(words);
     (number == 0 || number > 3).then(|| (words[0] as usize, words[1] as usize))
 }
 
@@ -242,10 +250,10 @@ fn damage_sum(rng: &mut Rng, words: &mut [i32]) {
     differences_again(words);
 }
 
-// ---------------------------------------------------------------- recordings and stores
+// ---------------------------------------------------------------- settings
 
 /// A random setting with a recording of at most `longest` samples.
-pub fn random_setting(rng: &mut Rng, top: u32, longest: u64) -> Setting {
+pub fn random_setting(rng: &mut Rng, top: u64, longest: u64) -> Setting {
     let book = accepted_book(rng);
     let count = match rng.below(4) {
         0 => 1 + rng.below(longest.min(8)),
@@ -253,55 +261,16 @@ pub fn random_setting(rng: &mut Rng, top: u32, longest: u64) -> Setting {
         _ => 1 + rng.below(longest),
     };
     let samples = random_recording(rng, count as usize);
-    Setting { book, samples, top }
+    setting_of(book, samples, top)
 }
 
-/// Fills a store with anything: words beyond the limits of their levels, at
-/// them and just past them.
-pub fn fill_store(rng: &mut Rng, store: &mut [i32], samples: u64, top: u32) {
-    let kind = rng.below(4);
-    let lengths = level_lengths(samples, top);
-    let ends: Vec<usize> = lengths
-        .iter()
-        .scan(0, |end, length| {
-            *end += length;
-            Some(*end)
-        })
-        .collect();
-    for (at, word) in store.iter_mut().enumerate() {
-        let level = ends.iter().take_while(|end| at >= **end).count().min(4);
-        let limit = 1 << (23 + level);
-        *word = match kind {
-            0 => wild_i32(rng),
-            1 => rng.pick(&[i32::MIN, i32::MAX]),
-            2 => rng.pick(&[limit, -limit, limit + 1, -limit - 1, limit - 1, 1 - limit]),
-            _ => rng.word() as i32,
-        };
-    }
-}
-
-/// The length of a store that is too short, or at times just long enough.
-pub fn short_length(rng: &mut Rng, needed: usize) -> usize {
-    match rng.below(4) {
-        0 => rng.below(needed as u64 + 1) as usize,
-        1 => 0,
-        _ => needed.saturating_sub(1 + rng.below(2) as usize),
-    }
-}
-
-/// A count of samples that play may be told, mostly a wrong one.
-pub fn told_samples(rng: &mut Rng, samples: u64) -> u64 {
-    let most = MOST_SAMPLES as u64;
-    match rng.below(10) {
-        0 | 1 => 0,
-        2 => most + 1,
-        3 => most,
-        4 => u64::MAX,
-        5 => samples + (1 << 32),
-        6 => samples + 1,
-        7 => samples.saturating_sub(1),
-        8 => 1 + rng.below(2 * samples),
-        _ => wild_u64(rng),
+/// A setting of the product, which is lent one book.
+pub fn setting_of(book: Vec<i32>, samples: Vec<i16>, top: u64) -> Setting {
+    Setting {
+        book,
+        second: Vec::new(),
+        samples,
+        top,
     }
 }
 
@@ -316,7 +285,7 @@ pub fn list_of_calls(
     longest: u64,
 ) -> Vec<Call> {
     let calls = match rng.below(4) {
-        0 => random_calls(rng, setting, count, longest),
+        0 => renderer_calls(rng, setting, count, longest),
         // Left as they are, since seeks past the end are among them.
         1 => return (0..count).map(|_| edge_call(rng, setting)).collect(),
         2 => (0..count)
@@ -326,11 +295,17 @@ pub fn list_of_calls(
             .map(|_| match rng.below(3) {
                 0 => edge_call(rng, setting),
                 1 => fade_call(rng, setting, longest),
-                _ => random_calls(rng, setting, 1, longest)[0],
+                _ => renderer_calls(rng, setting, 1, longest)[0],
             })
             .collect(),
     };
     keep_inside(rng, setting, rate, calls)
+}
+
+/// The renderer's own random calls.
+fn renderer_calls(rng: &mut Rng, setting: &Setting, count: usize, longest: u64) -> Vec<Call> {
+    let calls = random_calls(rng, EDITION, setting, count, longest);
+    calls.into_iter().map(Call::from).collect()
 }
 
 /// The list with plays cut short, and seeks put before them, where they would
@@ -372,7 +347,7 @@ pub fn keep_inside(rng: &mut Rng, setting: &Setting, rate: f32, calls: Vec<Call>
 
 /// Rates change often, so that fades run, end and follow each other.
 fn fade_call(rng: &mut Rng, setting: &Setting, longest: u64) -> Call {
-    let rate = random_rate(rng, setting.top);
+    let rate = accepted_rate(rng, setting.top);
     match rng.below(8) {
         0 | 1 => Call::Jump(rate),
         2 => Call::Glide(rate, 1 + rng.below(longest + 1) as u32),
@@ -386,9 +361,9 @@ fn fade_call(rng: &mut Rng, setting: &Setting, longest: u64) -> Call {
 fn edge_call(rng: &mut Rng, setting: &Setting) -> Call {
     match rng.below(8) {
         0 | 1 => Call::Seek(edge_position(rng, setting)),
-        2 => Call::Jump(random_rate(rng, setting.top)),
+        2 => Call::Jump(accepted_rate(rng, setting.top)),
         3 if rng.one_in(2) => Call::Jump(bad_rate(rng, setting.top)),
-        3 => Call::Glide(random_rate(rng, setting.top), wild_u32(rng)),
+        3 => Call::Glide(accepted_rate(rng, setting.top), wild_u32(rng)),
         _ => Call::Play(rng.below(30) as usize),
     }
 }
@@ -418,27 +393,33 @@ pub fn too_many_outputs(rng: &mut Rng) -> usize {
     MOST_OUTPUTS + 1 + rng.pick(&[0, 0, 0, 1, 4096])
 }
 
+/// A rate that T accepts; one in eight is the last one before an octave.
+pub fn accepted_rate(rng: &mut Rng, top: u64) -> f32 {
+    let octave = (1u32 << rng.below(top + 1)) as f32;
+    match rng.below(8) {
+        0 => f32::from_bits(octave.to_bits() - 1),
+        _ => random_rate(rng, top),
+    }
+}
+
 /// A rate that T accepts, or, once in n, one that it refuses.
-pub fn rate_or_bad(rng: &mut Rng, top: u32, n: u64) -> f32 {
+pub fn rate_or_bad(rng: &mut Rng, top: u64, n: u64) -> f32 {
     match rng.below(2 * n) {
         0 => bad_rate(rng, top),
         1 => f32::from_bits(rng.word() as u32),
-        _ => random_rate(rng, top),
+        _ => accepted_rate(rng, top),
     }
 }
 
 // ---------------------------------------------------------------- voices
 
 /// A voice that play accepts with this F, every field drawn anew. Where no glide
-/// runs its rates may be anything, and have 64 bits.
-pub fn free_words(rng: &mut Rng, top: u32, f: u32, samples: u64) -> Words {
-    let voice = free_voice(rng, top, f, samples);
-    let mut words = words_of(&voice, &[0; VOICE_WORDS]);
-    if voice.glide_count == 0 && rng.one_in(2) {
-        for at in [GLIDE_FROM, GLIDE_TO] {
-            set_wide(&mut words, at, wild_u64(rng));
-        }
-    }
+/// runs its rates and j may be anything.
+pub fn free_words(rng: &mut Rng, top: u64, f: i32, samples: u64) -> Words {
+    let mut voice = free_voice(rng, EDITION, top, f as u64, samples);
+    // The renderer draws 64 bits, the archive's j has 32.
+    voice.glide_done &= u64::from(u32::MAX);
+    let mut words = words_of(&voice);
     if voice.glide_count > 0 && rng.one_in(4) {
         let count = rng.pick(&[1, 65535, 65536]);
         words[GLIDE_COUNT] = count;
@@ -458,7 +439,7 @@ pub fn free_words(rng: &mut Rng, top: u32, f: u32, samples: u64) -> Words {
 }
 
 /// A voice with one field damaged, now and then two or three.
-pub fn damaged_words(rng: &mut Rng, voice: &Words, f: u32) -> Words {
+pub fn damaged_words(rng: &mut Rng, voice: &Words, f: i32) -> Words {
     let mut words = *voice;
     let count = match rng.below(4) {
         0 => 1 + rng.below(3),
@@ -495,8 +476,7 @@ fn damage_levels(rng: &mut Rng, words: &mut Words) {
 }
 
 /// For 14: i and the levels at odds, or i not below F.
-fn damage_fade(rng: &mut Rng, words: &mut Words, f: u32) {
-    let f = f as i32;
+fn damage_fade(rng: &mut Rng, words: &mut Words, f: i32) {
     match rng.below(4) {
         0 => words[NEXT_LEVEL] = if words[LEVEL] == 0 { 1 } else { 0 },
         1 => words[NEXT_LEVEL] = words[LEVEL],
@@ -564,7 +544,7 @@ fn damage_point(rng: &mut Rng, words: &mut Words) {
 
 /// Words that a single damaged word of a voice is tried with: the limits of
 /// every field, and the edges of the type.
-pub fn edge_words(voice: &Words, f: u32) -> Vec<i32> {
+pub fn edge_words(voice: &Words, f: i32) -> Vec<i32> {
     let mut list = vec![i32::MIN, i32::MIN + 1, i32::MAX, -1, 0, 1];
     for power in [2, 16, 23, 28, 29, 30] {
         list.extend([
@@ -576,7 +556,7 @@ pub fn edge_words(voice: &Words, f: u32) -> Vec<i32> {
         list.push(-(1 << power) - 1);
     }
     let top = voice[TOP];
-    list.extend([top, top + 1, f as i32 - 1, f as i32, f as i32 + 1]);
+    list.extend([top, top + 1, f - 1, f, f + 1]);
     list.extend([voice[GLIDE_COUNT], voice[GLIDE_COUNT] - 1]);
     list.push((wide(voice, RATE) >> 1) as i32);
     list
@@ -585,13 +565,14 @@ pub fn edge_words(voice: &Words, f: u32) -> Vec<i32> {
 #[cfg(test)]
 mod tests {
     use super::*;
+    use renderer::levels::MOST_TOP;
     use std::collections::BTreeSet;
 
     #[test]
     fn accepted_books_are_accepted() {
         let mut rng = Rng::new(1);
         for _ in 0..2000 {
-            assert_eq!(renderer::check_book(&accepted_book(&mut rng)), 0);
+            assert_eq!(book_number(&accepted_book(&mut rng)), 0);
         }
     }
 
@@ -601,9 +582,22 @@ mod tests {
         let mut seen = BTreeSet::new();
         for _ in 0..2000 {
             let book = accepted_book(&mut rng);
-            seen.insert(renderer::check_book(&damaged_book(&mut rng, &book)));
+            seen.insert(book_number(&damaged_book(&mut rng, &book)));
         }
         assert_eq!(seen, (0..=7).collect());
+    }
+
+    #[test]
+    fn accepted_rates_are_accepted() {
+        let mut rng = Rng::new(6);
+        for top in 0..=MOST_TOP {
+            let rates: Vec<f32> = (0..500).map(|_| accepted_rate(&mut rng, top)).collect();
+            assert!(rates.iter().all(|rate| !rate_out_of_range(*rate, top)));
+            for octave in 0..=top {
+                let last_before = f32::from_bits(((1u32 << octave) as f32).to_bits() - 1);
+                assert!(rates.contains(&last_before));
+            }
+        }
     }
 
     #[test]

@@ -17,11 +17,20 @@
 
 #![warn(missing_docs)]
 
+pub mod call;
 pub mod drive;
+pub mod facts;
 pub mod inputs;
 pub mod rattle;
 pub mod record;
 pub mod recorded;
 pub mod run;
 pub mod sides;
+pub mod stores;
 pub mod tally;
+
+use renderer::Edition;
+
+/// The edition of the product: document 01 with the requests of document 02 up to
+/// this one.
+pub const EDITION: Edition = Edition::A;

@@ -5,17 +5,17 @@
 //! modules play the drives and print their text. The test `recorded` holds the
 //! files to what is made here.
 
+use crate::call::Call;
 use crate::recorded::{small_drive, SmallDrive};
-use renderer::exact::Call;
 use std::fmt::Display;
-use std::path::Path;
-use std::{fs, io};
 
 /// The drives of `crates/recorded_drives`. The test `recorded` lists what they
-/// show: T 0 to 3, fades up and down by one to three levels, rate changes inside
-/// a fade, glides, a position that stops at 2^60, outputs at both limits, refused
-/// calls of every kind.
-pub const SEEDS: [u64; 8] = [562, 567, 757, 988, 1067, 1853, 2325, 2560];
+/// show: T 0 to 3, every N and M of small drives, fades up and down by one to three
+/// levels, rate changes inside a fade, glides, a position that stops at 2^60,
+/// outputs at both limits, refused calls of every kind. A refused opening returns
+/// the zero record, whose T is 0: plays with it are refused 19 where the store's T
+/// is not, else 15.
+pub const SEEDS: [u64; 8] = [1277, 4047, 6290, 8735, 16976, 17795, 17927, 19363];
 
 /// Longest text between the brackets of an array that stays on one line, as the
 /// formatter of the language has it.
@@ -98,12 +98,4 @@ pub fn files(seeds: &[u64]) -> Vec<(String, String)> {
     let text = drives.iter().map(SmallDrive::to_string).collect();
     let text = ("stdout".to_string(), text);
     modules.chain([text]).collect()
-}
-
-/// Writes the files of [`SEEDS`] into the program's folder.
-pub fn write_files(folder: &Path) -> io::Result<()> {
-    for (path, text) in files(&SEEDS) {
-        fs::write(folder.join(path), text)?;
-    }
-    Ok(())
 }

@@ -1,27 +1,18 @@
 //! The two forms of a voice: the archive's words and the renderer's record.
 //!
-//! They differ in width. The archive's R, R0 and R1 have 64 bits, the renderer's
-//! 32; the archive's points have 32 bits, the renderer's 64. Voices are made as
-//! words, so that every record that the archive can be lent is tried, and the
-//! renderer is lent the record that stands for them.
-//!
-//! A rate that needs more than 32 bits is out of range wherever it is looked at,
-//! since the limit is 2^(28+T) - 1 and T is at most 4. So [`UNUSABLE_RATE`], also
-//! out of range at every T, may stand for it: both give 15 or neither does. With
-//! c = 0 R0, R1 and j are not looked at: a play or a seek leaves them as they
-//! are, a jump clears them and a glide overwrites them. The renderer never
-//! writes UNUSABLE_RATE, as a call writes 0 or a rate of at least 2^23; so where
-//! it comes out, it went in, and the words that it stood for must still be there.
+//! Voices are made as words, so that every record that the archive can be lent is
+//! tried. The renderer's fields are as wide as the archive's or wider: R, R0, R1
+//! and P have 64 bits in both; T, levels, i, c and j are unsigned 32-bit words in
+//! the archive, and its points signed ones. So the renderer is lent exactly what
+//! the words say, and a voice that it hands back is words again, since a call
+//! keeps a field or writes a number of the archive's width. No word stands for the
+//! renderer's loop, which is none.
 
-use renderer::voice::POINTS;
-use renderer::Voice;
+use renderer::voice::{Voice, POINTS};
 use tone::VOICE_WORDS;
 
 /// A voice as the archive has it.
 pub type Words = [i32; VOICE_WORDS];
-
-/// What stands for a rate of more than 32 bits in the renderer's record.
-pub const UNUSABLE_RATE: u32 = 1;
 
 /// Word of T.
 pub const TOP: usize = 0;
@@ -78,55 +69,49 @@ pub fn set_wide(words: &mut Words, at: usize, value: u64) {
     words[at + 1] = (value >> 32) as u32 as i32;
 }
 
-fn narrow(rate: u64) -> u32 {
-    u32::try_from(rate).unwrap_or(UNUSABLE_RATE)
-}
-
 /// The renderer's record for these words.
 pub fn voice_of(words: &Words) -> Voice {
     let mut history = [0; POINTS];
     for (point, word) in history.iter_mut().zip(&words[HISTORY..]) {
         *point = i64::from(*word);
     }
+    let field = |at: usize| words[at] as u32;
     Voice {
-        top: words[TOP] as u32,
+        top: field(TOP).into(),
         position: wide(words, POSITION),
-        rate: narrow(wide(words, RATE)),
-        glide_from: narrow(wide(words, GLIDE_FROM)),
-        glide_to: narrow(wide(words, GLIDE_TO)),
-        glide_count: words[GLIDE_COUNT] as u32,
-        glide_done: words[GLIDE_DONE] as u32,
-        level: words[LEVEL] as u32,
-        next_level: words[NEXT_LEVEL] as u32,
-        fade: words[FADE] as u32,
+        rate: wide(words, RATE),
+        glide_from: wide(words, GLIDE_FROM),
+        glide_to: wide(words, GLIDE_TO),
+        glide_count: field(GLIDE_COUNT).into(),
+        glide_done: field(GLIDE_DONE).into(),
+        level: field(LEVEL).into(),
+        next_level: field(NEXT_LEVEL).into(),
+        fade: field(FADE).into(),
         history,
+        ..Voice::ZERO
     }
 }
 
-/// The words that the renderer's record stands for, where `before` are those
-/// that its call was given: a rate that came out as it went in has the words
-/// that went in.
-pub fn words_of(voice: &Voice, before: &Words) -> Words {
+/// The word of an unsigned field.
+fn word_of(field: impl TryInto<u32>) -> i32 {
+    field.try_into().ok().expect("the field has 32 bits") as i32
+}
+
+/// The words of the renderer's record.
+pub fn words_of(voice: &Voice) -> Words {
     let mut words = [0; VOICE_WORDS];
-    words[TOP] = voice.top as i32;
-    words[LEVEL] = voice.level as i32;
-    words[NEXT_LEVEL] = voice.next_level as i32;
-    words[FADE] = voice.fade as i32;
-    words[GLIDE_COUNT] = voice.glide_count as i32;
-    words[GLIDE_DONE] = voice.glide_done as i32;
+    words[TOP] = word_of(voice.top);
+    words[LEVEL] = word_of(voice.level);
+    words[NEXT_LEVEL] = word_of(voice.next_level);
+    words[FADE] = word_of(voice.fade);
+    words[GLIDE_COUNT] = word_of(voice.glide_count);
+    words[GLIDE_DONE] = word_of(voice.glide_done);
+    set_wide(&mut words, RATE, voice.rate);
+    set_wide(&mut words, GLIDE_FROM, voice.glide_from);
+    set_wide(&mut words, GLIDE_TO, voice.glide_to);
     set_wide(&mut words, POSITION, voice.position);
-    let rates = [
-        (RATE, voice.rate),
-        (GLIDE_FROM, voice.glide_from),
-        (GLIDE_TO, voice.glide_to),
-    ];
-    for (at, rate) in rates {
-        let given = wide(before, at);
-        let same = narrow(given) == rate;
-        set_wide(&mut words, at, if same { given } else { u64::from(rate) });
-    }
     for (word, point) in words[HISTORY..].iter_mut().zip(&voice.history) {
-        *word = i32::try_from(*point).expect("the renderer's points lie within ±2^29");
+        *word = i32::try_from(*point).expect("points lie within ±2^29");
     }
     words
 }
@@ -141,7 +126,7 @@ mod tests {
         let mut rng = Rng::new(1);
         for _ in 0..2000 {
             let words: Words = std::array::from_fn(|_| wild_i32(&mut rng));
-            assert_eq!(words_of(&voice_of(&words), &words), words);
+            assert_eq!(words_of(&voice_of(&words)), words);
         }
     }
 

@@ -1,20 +1,23 @@
 //! Small drives with the renderer's answers, as lines of text from which another
 //! program can be made.
 
-use crate::inputs::list_of_calls;
+use crate::call::{lent, Call};
+use crate::inputs::{accepted_rate, list_of_calls, setting_of};
 use crate::record::{words_of, Words};
-use renderer::exact::{Call, Setting};
-use renderer::random::{bad_rate, book_of_sizes, random_rate, random_recording, Rng};
-use renderer::{build, open, order, play, seek, Card, Lent, Order, Voice};
+use crate::EDITION;
+use renderer::exact::Setting;
+use renderer::levels::build;
+use renderer::random::{bad_rate, book_of_sizes, random_recording, Rng};
+use renderer::voice::{open, Card, Lent, Voice};
 use std::fmt::{self, Display};
-use tone::VOICE_WORDS;
 
 /// What each word of an output slice holds before its play, and each word of a
 /// store before it is built.
 pub const BEFORE: i16 = 77;
 
-/// Words of a small drive's store: enough for levels 0 to 3 of 64 samples.
-pub const STORE_WORDS: usize = 64 + 32 + 16 + 8;
+/// Words of a small drive's store: enough for the header and levels 0 to 3 of 64
+/// samples.
+pub const STORE_WORDS: usize = 6 + 64 + 32 + 16 + 8;
 
 /// Most calls of a small drive.
 pub const MOST_CALLS: usize = 12;
@@ -41,7 +44,7 @@ pub struct SmallDrive {
     pub setting: Setting,
     /// The building's number.
     pub built: u32,
-    /// The store, with the words after its levels.
+    /// The store: header, levels and the words after them.
     pub store: Vec<i32>,
     /// The opening's rate.
     pub rate: f32,
@@ -63,11 +66,8 @@ fn small_setting(rng: &mut Rng) -> Setting {
     ];
     let book = book_of_sizes(rng, sizes);
     let count = 1 + rng.below(64) as usize;
-    Setting {
-        book,
-        samples: random_recording(rng, count),
-        top: rng.below(4) as u32,
-    }
+    let samples = random_recording(rng, count);
+    setting_of(book, samples, rng.below(4))
 }
 
 /// Calls of a small drive: the plays share out the outputs.
@@ -89,16 +89,8 @@ fn small_calls(rng: &mut Rng, setting: &Setting, rate: f32) -> Vec<Call> {
 }
 
 fn answer(voice: &mut Voice, lent: &Lent, call: Call) -> Answered {
-    let mut out = Vec::new();
-    let (number, next) = match call {
-        Call::Jump(rate) => order(voice, Order::Jump(rate)),
-        Call::Glide(rate, count) => order(voice, Order::Glide(rate, count)),
-        Call::Seek(position) => seek(voice, position),
-        Call::Play(count) => {
-            out = vec![BEFORE; count];
-            play(voice, lent, &mut out)
-        }
-    };
+    let mut out = vec![BEFORE; call.outputs()];
+    let (number, next) = call.rendered(voice, lent, &mut out);
     *voice = next;
     Answered { call, number, out }
 }
@@ -109,22 +101,16 @@ fn answer(voice: &mut Voice, lent: &Lent, call: Call) -> Answered {
 pub fn small_drive(seed: u64) -> SmallDrive {
     let mut rng = Rng::new(seed);
     let setting = small_setting(&mut rng);
+    let top = setting.top;
     let rate = match rng.below(8) {
-        0 => bad_rate(&mut rng, setting.top),
-        _ => random_rate(&mut rng, setting.top),
+        0 => bad_rate(&mut rng, top),
+        _ => accepted_rate(&mut rng, top),
     };
     let list = small_calls(&mut rng, &setting, rate);
     let mut store = vec![i32::from(BEFORE); STORE_WORDS];
-    let built = build(&setting.book, &setting.samples, setting.top, &mut store);
-    let lent = Lent {
-        book: &setting.book,
-        store: &store,
-        samples: setting.samples.len() as u64,
-    };
-    let (opened, mut voice) = open(Card {
-        rate,
-        top: setting.top,
-    });
+    let built = build(EDITION, &setting.book, &setting.samples, top, &mut store);
+    let lent = lent(&setting.book, &store);
+    let (opened, mut voice) = open(EDITION, Card { rate, top });
     let calls = list
         .into_iter()
         .map(|call| answer(&mut voice, &lent, call))
@@ -135,18 +121,16 @@ pub fn small_drive(seed: u64) -> SmallDrive {
         rate,
         opened,
         calls,
-        voice: words_of(&voice, &[0; VOICE_WORDS]),
+        voice: words_of(&voice),
         setting,
         store,
     }
 }
 
-fn line<T: Display>(f: &mut fmt::Formatter<'_>, name: &str, words: &[T]) -> fmt::Result {
-    write!(f, "{name}")?;
-    for word in words {
-        write!(f, " {word}")?;
-    }
-    writeln!(f)
+/// A name and words, with a blank before each word.
+pub fn line(name: impl Display, words: &[impl Display]) -> String {
+    let words: String = words.iter().map(|word| format!(" {word}")).collect();
+    format!("{name}{words}\n")
 }
 
 impl Display for Answered {
@@ -159,7 +143,7 @@ impl Display for Answered {
         }
         writeln!(f, "number {}", self.number)?;
         match self.call {
-            Call::Play(_) => line(f, "out", &self.out),
+            Call::Play(_) => f.write_str(&line("out", &self.out)),
             _ => Ok(()),
         }
     }
@@ -172,18 +156,18 @@ impl Display for Answered {
 impl Display for SmallDrive {
     fn fmt(&self, f: &mut fmt::Formatter<'_>) -> fmt::Result {
         writeln!(f, "drive {}", self.seed)?;
-        line(f, "book", &self.setting.book)?;
-        line(f, "samples", &self.setting.samples)?;
+        f.write_str(&line("book", &self.setting.book))?;
+        f.write_str(&line("samples", &self.setting.samples))?;
         writeln!(f, "top {}", self.setting.top)?;
         writeln!(f, "build {}", self.store.len())?;
         writeln!(f, "number {}", self.built)?;
-        line(f, "store", &self.store)?;
+        f.write_str(&line("store", &self.store))?;
         writeln!(f, "open {:08x}", self.rate.to_bits())?;
         writeln!(f, "number {}", self.opened)?;
         for call in &self.calls {
             write!(f, "{call}")?;
         }
-        line(f, "voice", &self.voice)
+        f.write_str(&line("voice", &self.voice))
     }
 }
 
@@ -196,7 +180,7 @@ mod tests {
         for seed in 0..300 {
             let drive = small_drive(seed);
             let book = &drive.setting.book;
-            assert_eq!(renderer::check_book(book), 0);
+            assert_eq!(renderer::book::book_number(book), 0);
             assert!(book[0] <= 4 && book[1] <= 4 && book[4] <= 8);
             assert!(book[2] <= 3 && book[3] <= 3 && drive.setting.top <= 3);
             assert!(drive.setting.samples.len() <= 64);

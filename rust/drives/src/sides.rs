@@ -3,12 +3,16 @@
 //! The archives' slices stand between guard words, and what they may write holds a
 //! pattern before the call, so a word written out of turn is seen.
 
-use crate::record::{voice_of, word_name, words_of, Words};
+use crate::call::Call;
+use crate::record::{voice_of, word_name, words_of, Words, TOP};
+use crate::stores::store_number;
 use crate::tally::{Kind, Tally};
-use renderer::exact::Call;
-use renderer::{Card, Lent, Order, Voice};
+use crate::EDITION;
+use renderer::book::book_number;
+use renderer::levels;
+use renderer::voice::{open, Card, Lent};
 use std::fmt::{self, Debug};
-use tone::{archive, VOICE_LENGTH, VOICE_WORDS};
+use tone::{archive, MOST_TOP, VOICE_LENGTH, VOICE_WORDS};
 
 /// Where the two sides differ: the renderer's word is expected, the archive's
 /// was got.
@@ -105,49 +109,12 @@ fn store_pattern(count: usize) -> impl Iterator<Item = i32> {
     (0..count).map(|at| (at as u32 + 1).wrapping_mul(2_654_435_769) as i32)
 }
 
-fn kind_of(call: Call) -> Kind {
-    match call {
-        Call::Jump(_) => Kind::Jump,
-        Call::Glide(..) => Kind::Glide,
-        Call::Seek(_) => Kind::Seek,
-        Call::Play(_) => Kind::Play,
-    }
-}
-
-fn outputs_of(call: Call) -> usize {
-    match call {
-        Call::Play(count) => count,
-        _ => 0,
-    }
-}
-
-fn renderer_call(voice: &Voice, lent: &Lent, call: Call, out: &mut [i16]) -> (u32, Voice) {
-    match call {
-        Call::Jump(rate) => renderer::order(voice, Order::Jump(rate)),
-        Call::Glide(rate, count) => renderer::order(voice, Order::Glide(rate, count)),
-        Call::Seek(position) => renderer::seek(voice, position),
-        Call::Play(_) => renderer::play(voice, lent, out),
-    }
-}
-
 fn archive_call(voice: &mut [i32], lent: &Lent, call: Call, out: &mut [i16]) -> u32 {
     match call {
         Call::Jump(rate) => archive::jump(voice, rate),
         Call::Glide(rate, count) => archive::glide(voice, rate, count),
         Call::Seek(position) => archive::seek(voice, position),
-        Call::Play(_) => archive::play(voice, lent.book, lent.store, lent.samples as usize, out),
-    }
-}
-
-/// A call in words, for reports.
-pub fn describe(call: Call) -> String {
-    match call {
-        Call::Jump(rate) => format!("jump to {rate}, bits {:08x}", rate.to_bits()),
-        Call::Glide(rate, count) => {
-            format!("glide to {rate}, bits {:08x}, over {count}", rate.to_bits())
-        }
-        Call::Seek(position) => format!("seek {position}"),
-        Call::Play(count) => format!("play {count}"),
+        Call::Play(_) => archive::play(voice, lent.book, lent.store, out),
     }
 }
 
@@ -161,17 +128,25 @@ pub struct Sides {
 impl Sides {
     /// The check of a book.
     pub fn check(&mut self, book: &[i32]) -> Result<u32, Difference> {
-        let expected = renderer::check_book(book);
+        let expected = book_number(book);
         same("number", expected, archive::check(book))?;
         self.tally.note(Kind::Check, expected);
         Ok(expected)
     }
 
+    /// The check of a store.
+    pub fn check_store(&mut self, store: &[i32]) -> Result<u32, Difference> {
+        let expected = store_number(store);
+        same("number", expected, archive::check_store(store))?;
+        self.tally.note(Kind::CheckStore, expected);
+        Ok(expected)
+    }
+
     /// The words of a store, 0 where S or T is outside its range.
     pub fn store_words(&mut self, sample_count: u64, top: u32) -> Result<usize, Difference> {
-        let expected = match renderer::levels::sizes_out_of_range(sample_count, top) {
+        let expected = match levels::sizes_out_of_range(sample_count.into(), top.into()) {
             true => 0,
-            false => renderer::levels::store_length(sample_count, top),
+            false => levels::store_length(EDITION, sample_count, top.into()),
         };
         let got = archive::store_words(sample_count as usize, top);
         same("words of a store", expected, got)?;
@@ -187,20 +162,20 @@ impl Sides {
         length: usize,
     ) -> Result<(u32, Vec<i32>), Difference> {
         let mut expected: Vec<i32> = store_pattern(length).collect();
-        let number = renderer::build(book, samples, top, &mut expected);
+        let number = levels::build(EDITION, book, samples, top.into(), &mut expected);
         let mut store = Guarded::new(store_pattern(length), i32::MIN + 77);
         let got = archive::build(book, samples, top, store.inner_mut());
         same("number", number, got)?;
         let name = |at| format!("store word {at}");
         same_words(name, &expected, store.inner())?;
         store.intact()?;
-        let levels = match number {
+        let written = match number {
             0 => self.store_words(samples.len() as u64, top)?,
             _ => 0,
         };
         let left = store_pattern(length)
-            .skip(levels)
-            .eq(store.inner()[levels..].iter().copied());
+            .skip(written)
+            .eq(store.inner()[written..].iter().copied());
         same("words after the levels left alone", true, left)?;
         self.tally.note(Kind::Build, number);
         self.tally.store_words += length as u64;
@@ -209,8 +184,12 @@ impl Sides {
 
     /// Opening; a refused one writes the zero record.
     pub fn open(&mut self, rate: f32, top: u32) -> Result<(u32, Words), Difference> {
-        let (number, opened) = renderer::open(Card { rate, top });
-        let expected = words_of(&opened, &[0; VOICE_WORDS]);
+        let card = Card {
+            rate,
+            top: top.into(),
+        };
+        let (number, opened) = open(EDITION, card);
+        let expected = words_of(&opened);
         let mut words = Guarded::new(store_pattern(VOICE_WORDS), -77);
         same(
             "number",
@@ -228,18 +207,15 @@ impl Sides {
 
     /// An order, a seek or a play, from the voice given to the one returned.
     pub fn call(&mut self, voice: &mut Words, lent: &Lent, call: Call) -> Result<u32, Difference> {
-        let count = outputs_of(call);
+        let count = call.outputs();
         let mut expected: Vec<i16> = out_pattern(count).collect();
-        let (number, next) = renderer_call(&voice_of(voice), lent, call, &mut expected);
+        let (number, next) = call.rendered(&voice_of(voice), lent, &mut expected);
+        let after = words_of(&next);
         let mut words = Guarded::new(voice.iter().copied(), -77);
         let mut out = Guarded::new(out_pattern(count), 7777);
         let got = archive_call(words.inner_mut(), lent, call, out.inner_mut());
         same("number", number, got)?;
         same_words(|at| format!("output {at}"), &expected, out.inner())?;
-        let after = match number {
-            0 => words_of(&next, voice),
-            _ => *voice,
-        };
         same_words(word_name, &after, words.inner())?;
         words.intact()?;
         out.intact()?;
@@ -248,8 +224,12 @@ impl Sides {
         } else {
             let left = out_pattern(count).eq(out.inner().iter().copied());
             same("outputs left alone by a refusal", true, left)?;
+            same("voice left alone by a refusal", true, *voice == after)?;
         }
-        self.tally.note(kind_of(call), number);
+        self.tally.note(call.kind(), number);
+        if (call.kind(), number) == (Kind::Play, 13) && voice[TOP] as u32 > MOST_TOP {
+            self.tally.tops_above_4 += 1;
+        }
         *voice = after;
         Ok(number)
     }
@@ -263,7 +243,7 @@ impl Sides {
         lent: &Lent,
         call: Call,
     ) -> Result<(), Difference> {
-        let count = outputs_of(call);
+        let count = call.outputs();
         let mut words = Guarded::new(store_pattern(length), -77);
         let mut out = Guarded::new(out_pattern(count), 7777);
         let opened = archive::open(rate, top, words.inner_mut());
@@ -276,7 +256,7 @@ impl Sides {
         words.intact()?;
         out.intact()?;
         self.tally.note(Kind::Open, VOICE_LENGTH);
-        self.tally.note(kind_of(call), VOICE_LENGTH);
+        self.tally.note(call.kind(), VOICE_LENGTH);
         Ok(())
     }
 }

@@ -9,6 +9,8 @@ pub enum Kind {
     Check,
     /// The level builder.
     Build,
+    /// The check of a store.
+    CheckStore,
     /// Opening a voice.
     Open,
     /// A jump.
@@ -22,9 +24,10 @@ pub enum Kind {
 }
 
 /// All calls, in the table's order.
-pub const KINDS: [Kind; 7] = [
+pub const KINDS: [Kind; 8] = [
     Kind::Check,
     Kind::Build,
+    Kind::CheckStore,
     Kind::Open,
     Kind::Jump,
     Kind::Glide,
@@ -40,6 +43,7 @@ impl Kind {
         match self {
             Kind::Check => "check",
             Kind::Build => "build",
+            Kind::CheckStore => "check_store",
             Kind::Open => "open",
             Kind::Jump => "jump",
             Kind::Glide => "glide",
@@ -48,12 +52,12 @@ impl Kind {
         }
     }
 
-    /// Every number that the call can give, 0 for accepted among them. Play
-    /// gives 8 for T, so its 13 is for a level above T.
+    /// Every number that the call can give, 0 for accepted among them.
     pub fn numbers(self) -> &'static [u32] {
         match self {
             Kind::Check => &[0, 1, 2, 3, 4, 5, 6, 7],
             Kind::Build => &[0, 1, 2, 3, 4, 5, 6, 7, 8, 9],
+            Kind::CheckStore => &[0, 8, 9, 18],
             Kind::Open => &[0, 8, 10, VOICE_LENGTH],
             Kind::Jump => &[0, 10, 13, 15, 16, 17, VOICE_LENGTH],
             Kind::Glide => &[0, 10, 11, 13, 15, 16, 17, VOICE_LENGTH],
@@ -75,6 +79,8 @@ impl Kind {
                 15,
                 16,
                 17,
+                18,
+                19,
                 VOICE_LENGTH,
             ],
         }
@@ -85,6 +91,8 @@ impl Kind {
 #[derive(Clone, Debug)]
 pub struct Tally {
     counts: [[u64; NUMBERS]; KINDS.len()],
+    /// Of play's 13s, those for a T above 4. The others are for a level above T.
+    pub tops_above_4: u64,
     /// Samples compared.
     pub samples: u64,
     /// Those of them that are neither 0 nor at a limit of 16 bits.
@@ -99,6 +107,7 @@ impl Default for Tally {
     fn default() -> Tally {
         Tally {
             counts: [[0; NUMBERS]; KINDS.len()],
+            tops_above_4: 0,
             samples: 0,
             telling_samples: 0,
             store_words: 0,
@@ -132,6 +141,7 @@ impl Tally {
                 *count += more;
             }
         }
+        self.tops_above_4 += other.tops_above_4;
         self.samples += other.samples;
         self.telling_samples += other.telling_samples;
         self.store_words += other.store_words;
@@ -148,6 +158,11 @@ impl Tally {
         self.counts.iter().map(|row| row[0]).sum()
     }
 
+    /// Of play's 13s, those for a level above T.
+    fn levels_above_top(&self) -> u64 {
+        self.count(Kind::Play, 13) - self.tops_above_4
+    }
+
     /// What the calls can give and was not seen, as "call number".
     pub fn not_seen(&self) -> Vec<String> {
         let mut missing = Vec::new();
@@ -158,6 +173,13 @@ impl Tally {
                 }
             }
         }
+        let play_13 = [
+            ("for T", self.tops_above_4),
+            ("for a level", self.levels_above_top()),
+        ];
+        for (reason, _) in play_13.iter().filter(|(_, count)| *count == 0) {
+            missing.push(format!("play 13 {reason}"));
+        }
         missing
     }
 
@@ -166,20 +188,26 @@ impl Tally {
     pub fn table(&self) -> String {
         let mut text = String::from("number");
         for kind in KINDS {
-            text.push_str(&format!("{:>11}", kind.name()));
+            text.push_str(&format!("{:>12}", kind.name()));
         }
         text.push('\n');
-        for number in (0..=17).chain([VOICE_LENGTH]) {
+        let given = |number: &u32| KINDS.iter().any(|kind| kind.numbers().contains(number));
+        for number in (0..=VOICE_LENGTH).filter(given) {
             text.push_str(&format!("{number:>6}"));
             for kind in KINDS {
                 let count = match kind.numbers().contains(&number) {
                     true => self.count(kind, number).to_string(),
                     false => "-".to_string(),
                 };
-                text.push_str(&format!("{count:>11}"));
+                text.push_str(&format!("{count:>12}"));
             }
             text.push('\n');
         }
+        text.push_str(&format!(
+            "13 at play: {} for T above 4, {} for a level above T\n",
+            self.tops_above_4,
+            self.levels_above_top()
+        ));
         text.push_str(&format!(
             "{} drives, {} samples ({} neither 0 nor at a limit), {} store words, \
              {} calls accepted, {} refused\n",
@@ -208,9 +236,14 @@ mod tests {
                 }
             }
         }
-        assert_eq!(tally.not_seen(), ["seek 12"]);
+        assert_eq!(tally.not_seen(), ["seek 12", "play 13 for T"]);
         let mut more = Tally::default();
         more.note(Kind::Seek, 12);
+        more.tops_above_4 = 1;
+        tally.add(&more);
+        assert_eq!(tally.not_seen(), ["play 13 for a level"]);
+        more = Tally::default();
+        more.note(Kind::Play, 13);
         tally.add(&more);
         assert!(tally.not_seen().is_empty());
         assert_eq!(tally.accepted(), KINDS.len() as u64);

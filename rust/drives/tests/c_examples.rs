@@ -1,9 +1,12 @@
 //! The texts that the C examples must print are the renderer's.
 
-use renderer::levels::store_length;
+use drives::call::lent;
+use drives::recorded::line;
+use drives::EDITION;
+use renderer::book::book_number;
+use renderer::levels::{build, store_length};
 use renderer::programs::{bench_cases, book_k};
-use renderer::{build, check_book, open, play, Card, Lent};
-use std::fmt::Display;
+use renderer::voice::{open, order, play, Card, Order, Voice};
 use std::fs;
 use std::path::Path;
 
@@ -12,27 +15,28 @@ fn expected(example: &str) -> String {
     fs::read_to_string(folder.join(format!("{example}.txt"))).unwrap()
 }
 
-/// A letter and numbers, a blank before each.
-fn line(letter: char, numbers: &[impl Display]) -> String {
-    let numbers = numbers.iter().map(|number| format!(" {number}"));
-    format!("{letter}{}\n", numbers.collect::<String>())
+fn store_of(book: &[i32], samples: &[i16], top: u64) -> Vec<i32> {
+    let mut store = vec![0; store_length(EDITION, samples.len() as u64, top)];
+    assert_eq!(build(EDITION, book, samples, top, &mut store), 0);
+    store
 }
 
-fn store_of(book: &[i32], samples: &[i16], top: u32) -> Vec<i32> {
-    let mut store = vec![0; store_length(samples.len() as u64, top)];
-    assert_eq!(build(book, samples, top, &mut store), 0);
-    store
+/// A voice of T 1 at its recorded speed.
+fn opened() -> Voice {
+    let (number, voice) = open(EDITION, Card { rate: 1.0, top: 1 });
+    assert_eq!(number, 0);
+    voice
 }
 
 #[test]
 fn studio() {
     let k = book_k(1, 16384, 16384);
-    let mut text = format!("book K: number {}\n", check_book(&k));
-    text += &format!("without its last word: number {}\n", check_book(&k[..10]));
+    let mut text = format!("book K: number {}\n", book_number(&k));
+    text += &format!("without its last word: number {}\n", book_number(&k[..10]));
     for (samples, top) in [(3, 1), (1, 4), (1_048_576, 4)] {
         text += &format!(
             "S {samples}, T {top}: {} words\n",
-            store_length(samples, top)
+            store_length(EDITION, samples, top)
         );
     }
     text += "S 3, T 5: 0 words\n"; // T is out of range
@@ -45,17 +49,18 @@ fn studio() {
     for sample in [i16::MAX, i16::MIN] {
         text += &line('G', &store_of(&k, &[sample; 3], 0));
     }
-    let mut short = [7; 4];
-    let number = build(&k, &[0, 1000, 2000], 1, &mut short);
-    text += &format!("B in 4 words: number {number}, the store is shorter than its levels\n");
-    assert_eq!(short, [7; 4]);
+    let mut short = [7; 8];
+    let number = build(EDITION, &k, &[0, 1000, 2000], 1, &mut short);
+    let meaning = "the store is shorter than its header and levels";
+    text += &format!("B in 8 words: number {number}, {meaning}\n");
+    assert_eq!(short, [7; 8]);
     text += "the store is as it was\n";
     assert_eq!(expected("studio"), text);
 }
 
 /// The lines of bench cases B and C, and the level that C ends on.
 fn cases_b_and_c() -> [String; 3] {
-    let cases = bench_cases();
+    let cases = bench_cases(EDITION);
     let printed = |letter: char| {
         let case = cases.iter().find(|case| case.0 == letter).unwrap();
         line(letter, &case.1)
@@ -70,15 +75,10 @@ fn unit() {
     let [b, c, level] = cases_b_and_c();
     let k = book_k(1, 16384, 16384);
     let store = store_of(&k, &[0, 1000, 2000], 1);
-    let lent = Lent {
-        book: &k,
-        store: &store,
-        samples: 3,
-    };
-    let mut damaged = open(Card { rate: 1.0, top: 1 }).1;
+    let mut damaged = opened();
     damaged.position |= 0xffff_ffff << 32;
     let mut out = [77; 2];
-    let (number, _) = play(&damaged, &lent, &mut out);
+    let number = play(EDITION, &damaged, &lent(&k, &store), &mut out).number;
     assert_eq!(out, [77; 2]);
     let refusal = format!("a voice beyond 2^60: number {number}\nthe output is as it was\n");
     assert_eq!(expected("unit"), [b.clone(), b, c, level, refusal].concat());
@@ -87,9 +87,8 @@ fn unit() {
 #[test]
 fn both() {
     let [b, c, level] = cases_b_and_c();
-    let a = line('A', &bench_cases()[0].1);
-    let order = renderer::Order::Jump(4.0);
-    let (number, _) = renderer::order(&open(Card { rate: 1.0, top: 1 }).1, order);
+    let a = line('A', &bench_cases(EDITION)[0].1);
+    let (number, _) = order(EDITION, &opened(), Order::Jump(4.0));
     let refusal = format!("jump to 4: refused {number}, the rate is out of range\n");
     let rest = "the voice is as it was\n".to_owned();
     assert_eq!(

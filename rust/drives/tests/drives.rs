@@ -2,12 +2,14 @@
 //!
 //! `DRIVE_SEED` and `DRIVE_COUNT` set the random drives; see the crate.
 
-use drives::inputs::{list_of_calls, random_setting};
+use drives::call::Call;
+use drives::inputs::{accepted_rate, list_of_calls, random_setting};
 use drives::record::Words;
 use drives::run::{run, Plan, SAMPLES_PER_REFUSAL};
+use drives::EDITION;
 use renderer::big::Big;
-use renderer::exact::{bound, run_list, Call, Compared, Setting};
-use renderer::random::{random_rate, Rng};
+use renderer::exact::{self, bound, run_list, Compared, Setting};
+use renderer::random::Rng;
 use tone::{build, store_words, Voice};
 
 #[test]
@@ -28,10 +30,10 @@ fn random_drives() {
 
 /// A list through the archive: each call's number, all samples, the end voice.
 fn archive_list(setting: &Setting, rate: f32, calls: &[Call]) -> (Vec<u32>, Vec<i16>, Words) {
-    let Setting { book, samples, top } = setting;
-    let mut store = vec![0; store_words(samples.len(), *top).unwrap()];
-    build(book, samples, *top, &mut store).unwrap();
-    let mut voice = Voice::open(rate, *top).unwrap();
+    let (book, samples, top) = (&setting.book, &setting.samples, setting.top as u32);
+    let mut store = vec![0; store_words(samples.len(), top).unwrap()];
+    build(book, samples, top, &mut store).unwrap();
+    let mut voice = Voice::open(rate, top).unwrap();
     let (mut numbers, mut played) = (Vec::new(), Vec::new());
     for call in calls {
         let answer = match *call {
@@ -40,7 +42,7 @@ fn archive_list(setting: &Setting, rate: f32, calls: &[Call]) -> (Vec<u32>, Vec<
             Call::Seek(position) => voice.seek(position),
             Call::Play(count) => {
                 let mut out = vec![0; count];
-                let answer = voice.play(book, &store, samples.len(), &mut out);
+                let answer = voice.play(book, &store, &mut out);
                 played.extend(out);
                 answer
             }
@@ -83,9 +85,9 @@ fn cuts_make_no_difference() {
     let seed = Plan::from_env().seed;
     let mut rng = Rng::new(seed);
     for round in 0..1500 {
-        let top = (round % 5) as u32;
+        let top = round % 5;
         let setting = random_setting(&mut rng, top, 400);
-        let rate = random_rate(&mut rng, top);
+        let rate = accepted_rate(&mut rng, top);
         let calls = list_of_calls(&mut rng, &setting, rate, 20, 300);
         let (numbers, samples, voice) = archive_list(&setting, rate, &calls);
         let cut = other_cut(&mut rng, &calls, &numbers);
@@ -98,7 +100,7 @@ fn cuts_make_no_difference() {
 
 /// Whether a sample lies within (126 + 4 × 2^T)/256 of the exact sum, limited to
 /// 16 bits; and its distance as a part of that.
-fn within(sample: i16, exact: &Compared, f: i32, top: u32) -> (bool, f64) {
+fn within(sample: i16, exact: &Compared, f: i32, top: u64) -> (bool, f64) {
     let one = Big::from(i128::from(f)) << exact.scale_bits;
     let limited = exact.exact.clamp(one * -32768, one * 32767);
     let distance = (one * i128::from(sample) - limited).abs() * 256;
@@ -114,12 +116,13 @@ fn samples_lie_within_the_bound() {
     let mut most = [0f64; 5];
     let mut count = 0;
     for round in 0..1000 {
-        let top = (round % 5) as u32;
+        let top = round % 5;
         let setting = random_setting(&mut rng, top, 150);
-        let rate = random_rate(&mut rng, top);
+        let rate = accepted_rate(&mut rng, top);
         let calls = list_of_calls(&mut rng, &setting, rate, 16, 40);
         let (numbers, samples, _) = archive_list(&setting, rate, &calls);
-        let report = run_list(&setting, rate, &calls).unwrap();
+        let list: Vec<exact::Call> = calls.iter().map(|call| (*call).into()).collect();
+        let report = run_list(EDITION, &setting, rate, &list).unwrap();
         let repeat = format!("round {round}, DRIVE_SEED={seed}: {calls:?}");
         let exact_numbers: Vec<u32> = report.calls.iter().map(|c| c.exact_number).collect();
         assert_eq!(numbers, exact_numbers, "{repeat}");

@@ -1,32 +1,41 @@
-//! The program `recorded_drives`: its drives and its expected output are the
-//! renderer's, and the drives show what they were chosen for.
+//! The programs `recorded_drives`, `level_facts` and `player_facts`: the drives of
+//! the first and the expected outputs of all are the renderer's, and they show what
+//! they were chosen for.
 
-use drives::rattle::{files, SEEDS};
+use drives::call::{lent, Call};
+use drives::facts;
+use drives::rattle::{self, SEEDS};
 use drives::recorded::{small_drive, Answered, SmallDrive};
-use renderer::exact::Call;
-use renderer::{open, order, play, seek, Card, Lent, Order, Voice};
+use drives::EDITION;
+use renderer::voice::{asked_level, open, Card, Lent, Voice};
 use std::collections::BTreeSet;
 use std::fs;
 use std::path::{Path, PathBuf};
 
-fn program_folder() -> PathBuf {
-    Path::new(env!("CARGO_MANIFEST_DIR")).join("../../crates/recorded_drives")
+fn programs() -> PathBuf {
+    Path::new(env!("CARGO_MANIFEST_DIR")).join("../../crates")
+}
+
+/// Holds the files of a folder to what `recorded` writes into it with an option.
+fn hold(folder: &Path, files: Vec<(String, String)>, option: &str) {
+    for (path, text) in files {
+        let found = fs::read_to_string(folder.join(&path));
+        let found = found.unwrap_or_else(|error| panic!("{path}: {error}"));
+        assert!(found == text, "{path}: run `recorded {option}` again");
+    }
 }
 
 #[test]
 fn files_are_the_renderers() {
-    let folder = program_folder();
-    for (path, text) in files(&SEEDS) {
-        let found = fs::read_to_string(folder.join(&path));
-        let found = found.unwrap_or_else(|error| panic!("{path}: {error}"));
-        assert!(found == text, "{path}: run `recorded --rattle` again");
-    }
+    let drives = programs().join("recorded_drives");
+    hold(&drives, rattle::files(&SEEDS), "--rattle");
+    hold(&programs(), facts::files(), "--facts");
 }
 
 /// Every module of a drive is one of the seeds', and the program prints each.
 #[test]
 fn no_other_drives() {
-    let folder = program_folder().join("src");
+    let folder = programs().join("recorded_drives/src");
     let main = fs::read_to_string(folder.join("main.rt")).unwrap();
     let files = fs::read_dir(&folder).unwrap();
     let modules: BTreeSet<String> = files
@@ -47,8 +56,7 @@ fn see_voice(seen: &mut Seen, voice: &Voice) {
     if voice.fade > 0 {
         let (old, new) = (voice.level, voice.next_level);
         seen.insert(format!("fade {old} to {new}"));
-        let asked = (0..4).rev().find(|l| voice.rate >> l >= 1 << 27);
-        if asked.unwrap_or(0) != new {
+        if asked_level(EDITION, new, voice.rate) != new {
             seen.insert("rate change inside a fade".to_string());
         }
     }
@@ -64,7 +72,7 @@ fn see_voice(seen: &mut Seen, voice: &Voice) {
 fn see_play(seen: &mut Seen, voice: &mut Voice, lent: &Lent, count: usize) {
     for _ in 0..count {
         let gliding = voice.glide_count > 0;
-        *voice = play(voice, lent, &mut [0]).1;
+        *voice = Call::Play(1).rendered(voice, lent, &mut [0]).1;
         if gliding && voice.glide_count == 0 {
             seen.insert("glide that ends".to_string());
         }
@@ -73,14 +81,9 @@ fn see_play(seen: &mut Seen, voice: &mut Voice, lent: &Lent, count: usize) {
 }
 
 fn see_answer(seen: &mut Seen, answered: &Answered) {
-    let kind = match answered.call {
-        Call::Jump(_) => "jump",
-        Call::Glide(..) => "glide",
-        Call::Seek(_) => "seek",
-        Call::Play(_) => "play",
-    };
+    let name = answered.call.kind().name();
     let number = answered.number;
-    seen.insert(format!("{kind}: {number}"));
+    seen.insert(format!("{name}: {number}"));
     for limit in [i16::MIN, i16::MAX] {
         if answered.out.contains(&limit) {
             seen.insert(format!("output {limit}"));
@@ -88,31 +91,26 @@ fn see_answer(seen: &mut Seen, answered: &Answered) {
     }
     match answered.call {
         Call::Play(0) => seen.insert("play of no outputs".to_string()),
-        Call::Jump(rate) if rate.is_nan() => seen.insert("jump to NaN".to_string()),
+        Call::Jump(rate) if rate.is_nan() => seen.insert(format!("jump to NaN: {number}")),
         _ => false,
     };
 }
 
 fn see_drive(seen: &mut Seen, drive: &SmallDrive) {
     let top = drive.setting.top;
-    let lent = Lent {
-        book: &drive.setting.book,
-        store: &drive.store,
-        samples: drive.setting.samples.len() as u64,
-    };
+    let lent = lent(&drive.setting.book, &drive.store);
     let rate = drive.rate;
-    let (number, mut voice) = open(Card { rate, top });
+    let (number, mut voice) = open(EDITION, Card { rate, top });
     seen.insert(format!("open: {number}"));
     if number == 0 {
-        seen.insert(format!("T {top}"));
+        let (n, m) = (drive.setting.book[0], drive.setting.book[1]);
+        seen.extend([format!("T {top}"), format!("N {n}"), format!("M {m}")]);
     }
     for answered in &drive.calls {
         see_answer(seen, answered);
         match answered.call {
-            Call::Jump(rate) => voice = order(&voice, Order::Jump(rate)).1,
-            Call::Glide(rate, count) => voice = order(&voice, Order::Glide(rate, count)).1,
-            Call::Seek(position) => voice = seek(&voice, position).1,
             Call::Play(count) => see_play(seen, &mut voice, &lent, count),
+            other => voice = other.rendered(&voice, &lent, &mut []).1,
         }
     }
     if voice.fade > 0 {
@@ -120,14 +118,14 @@ fn see_drive(seen: &mut Seen, drive: &SmallDrive) {
     }
 }
 
-const EXPECTED: &str = "T 0, T 1, T 2, T 3, \
+const EXPECTED: &str = "T 0, T 1, T 2, T 3, N 2, N 4, M 1, M 2, M 4, \
     fade 0 to 1, fade 0 to 2, fade 0 to 3, fade 1 to 2, \
     fade 1 to 0, fade 2 to 0, fade 2 to 1, fade 3 to 0, fade 3 to 2, \
     rate change inside a fade, fade at the end, glide, glide that ends, \
     position 2^60, output -32768, output 32767, \
     open: 0, jump: 0, glide: 0, seek: 0, play: 0, play of no outputs, \
-    open: 10, jump: 10, jump to NaN, glide: 10, glide: 11, seek: 12, \
-    jump: 15, glide: 15, seek: 15, play: 15";
+    open: 10, jump: 10, jump to NaN: 10, glide: 10, glide: 11, seek: 12, \
+    jump: 15, glide: 15, seek: 15, play: 15, play: 19";
 
 #[test]
 fn the_drives_show_much() {

@@ -3,9 +3,13 @@
 //!
 //! recorded --rattle FOLDER: writes the drives of the program `recorded_drives`,
 //! and its expected output, into its folder; see `drives::rattle`.
+//!
+//! recorded --facts FOLDER: writes the expected outputs of the programs `level_facts`
+//! and `player_facts` into their folders in this one; see `drives::facts`.
 
-use drives::rattle::write_files;
 use drives::recorded::small_drive;
+use drives::{facts, rattle};
+use std::fs;
 use std::num::ParseIntError;
 use std::path::Path;
 use std::process::ExitCode;
@@ -21,26 +25,31 @@ fn print_drives(arguments: &[String]) -> ExitCode {
             ExitCode::SUCCESS
         }
         _ => {
-            eprintln!("recorded SEED.. | recorded --rattle FOLDER");
+            eprintln!("recorded SEED.. | recorded --rattle FOLDER | recorded --facts FOLDER");
             ExitCode::from(2)
         }
     }
 }
 
-fn write_program(folder: &str) -> ExitCode {
-    match write_files(Path::new(folder)) {
-        Ok(()) => ExitCode::SUCCESS,
-        Err(error) => {
-            eprintln!("{folder}: {error}");
-            ExitCode::FAILURE
+/// Writes files by their paths in a folder.
+fn write_files(folder: &str, files: Vec<(String, String)>) -> ExitCode {
+    for (path, text) in files {
+        let path = Path::new(folder).join(path);
+        if let Err(error) = fs::write(&path, text) {
+            eprintln!("{}: {error}", path.display());
+            return ExitCode::FAILURE;
         }
     }
+    ExitCode::SUCCESS
 }
 
 fn main() -> ExitCode {
     let arguments: Vec<String> = std::env::args().skip(1).collect();
     match &arguments[..] {
-        [option, folder] if option == "--rattle" => write_program(folder),
+        [option, folder] if option == "--rattle" => {
+            write_files(folder, rattle::files(&rattle::SEEDS))
+        }
+        [option, folder] if option == "--facts" => write_files(folder, facts::files()),
         seeds => print_drives(seeds),
     }
 }

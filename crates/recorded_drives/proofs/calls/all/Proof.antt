@@ -6,10 +6,10 @@ use Rattle.recorded_drives.proofs.calls.all.Statement.{statement}
 use Rattle.recorded_drives.proofs.calls.all.Tie as tie
 
 abbrev Inv-loop : tie.InvT-loop
-Inv-loop calls book store samples v₀ k₀ v k = k ≤ length calls
+Inv-loop calls book store v₀ k₀ v k = k ≤ length calls
 
 abbrev μ-loop : tie.MeasureT-loop
-μ-loop calls book store samples v₀ k₀ v k = length calls - k
+μ-loop calls book store v₀ k₀ v k = length calls - k
 
 loop-holds : tie.Need-loop-holds Inv-loop μ-loop
 loop-holds c = search needs
