@@ -49,7 +49,7 @@ cargo build --release --manifest-path rust/Cargo.toml --target-dir rust/target -
 built=$("$programs/tone" build "$book" "$hum" "$top" "$store")
 [[ $built =~ ^S\ ([0-9]+),\ T\ [0-9]+:\ ([0-9]+)\ words$ ]] || fail "tone build says: $built"
 samples=${BASH_REMATCH[1]} words=${BASH_REMATCH[2]}
-played=$("$programs/tone" play "$book" "$store" "$samples" "$top" "$rate" "$drive" "$sound" --sample-rate "$hertz")
+played=$("$programs/tone" play "$book" "$store" "$rate" "$drive" "$sound" --sample-rate "$hertz")
 [[ $played =~ ^([0-9]+)\ outputs$ ]] || fail "tone play says: $played"
 outputs=${BASH_REMATCH[1]}
 

@@ -1,17 +1,19 @@
 /*
  * tone.h: the driving-tone player, for C99 and C++.
  *
- * A recorded 16-bit hum is played faster or slower, from the octave levels that a
- * studio built of it once (tone_builder.h). The calls are in libtone.a, for
- * x86-64; link with -ltone. The archive needs the C library and nothing else. It
- * shares no symbol with libtone_builder.a: a program may link both.
+ * A recorded 16-bit hum is played faster or slower, from the store of octave levels
+ * that a studio built of it once (tone_builder.h). A store names its levels: with
+ * the book it is all that a unit is sent. The calls are in libtone.a, for x86-64;
+ * link with -ltone. The archive needs the C library and nothing else. It shares no
+ * symbol with libtone_builder.a: a program may link both.
  *
  *   const int32_t book[] = { .. };                  a filter book
- *   const int32_t store[] = { .. };                 the levels of a recording
+ *   const int32_t store[] = { .. };                 a studio's store
  *   int32_t voice[TONE_VOICE_WORDS];
- *   tone_open(1.0f, top, voice, TONE_VOICE_WORDS);
+ *   tone_check_store(store, store_words);           0: the store names its T
+ *   tone_open(1.0f, store[TONE_STORE_WORD_TOP], voice, TONE_VOICE_WORDS);
  *   tone_glide(voice, TONE_VOICE_WORDS, 2.0f, 48000);
- *   tone_play(voice, .., book, .., store, .., sample_count, out, out_count);
+ *   tone_play(voice, .., book, .., store, .., out, out_count);
  *
  * tone_numbers.h has the promise that every call keeps, the rules on pointers,
  * the numbers and the limits of book and store. On x86-64 tone_play takes some
@@ -76,6 +78,19 @@ enum tone_voice_word {
 };
 
 /*
+ * Tests a store, as play does: for a unit that is sent one and opens a voice for
+ * it. After 0, word TONE_STORE_WORD_TOP is T. The words of the levels may be
+ * anything, and those after them are not looked at.
+ *
+ * Numbers: 9 where there are fewer than two words, then 8 of S and T, which are
+ *          read as signed, then 9 of the length that they call for, then 18.
+ * Writes:  nothing.
+ *
+ * The number is storeNumber of the store's words (crates/store/specs/Check.antt).
+ */
+uint32_t tone_check_store(const int32_t *store, size_t store_words);
+
+/*
  * Opens a voice at a rate, for stores of top level `top`: at position 0, on the
  * level that the rate asks for, with no glide, no fade and a silent history. A
  * rate of 1 is the recorded speed. R is rate x 2^27, with nothing lost.
@@ -125,14 +140,14 @@ uint32_t tone_glide(int32_t *voice, size_t voice_words, float rate, uint32_t cou
 uint32_t tone_seek(int32_t *voice, size_t voice_words, uint64_t position);
 
 /*
- * Fills the whole output with the voice's next samples. `sample_count` is the S
- * that the store was built with; its T is the voice's. A count of 0 outputs is
- * accepted and leaves the voice as it is. The store may hold anything: a word of
- * level j beyond -2^(23+j)..2^(23+j) is read as that limit.
+ * Fills the whole output with the voice's next samples. S and T are those of the
+ * store's header. A count of 0 outputs is accepted and leaves the voice as it is.
+ * The levels may hold anything: a word of level j beyond -2^(23+j)..2^(23+j) is
+ * read as that limit.
  *
- * Numbers: 28, then 1 2 3 4 5 6 7 of the book, then 8 of `sample_count`
- *          and the voice's T, then 9 with that T, then 13 14 15 16 17 of the
- *          voice, then 11.
+ * Numbers: 28, then 1 2 3 4 5 6 7 of the book, then 9 8 9 18 of the store, as
+ *          tone_check_store gives them, then 13 of the voice, then 19, then
+ *          14 15 16 17 of the voice, then 11.
  * Writes:  every output word, and the voice.
  *
  * Number, voice and output are those of playCrossing
@@ -146,7 +161,7 @@ uint32_t tone_seek(int32_t *voice, size_t voice_words, uint64_t position);
  * any list of tone_jump, tone_glide, tone_seek and tone_play calls, refused ones
  * among them, that starts from the voice of an accepted tone_open for this T and
  * gives each call the voice that the last one left, every play being lent this
- * book and store and told this S.
+ * book and store.
  *  - Each sample that any play of the list wrote lies within
  *    (126 + 4 x 2^T) / 256 of one 16-bit step of the exact sum, limited to 16
  *    bits: 130, 134, 142, 158 or 190 of 256 for T = 0, 1, 2, 3 or 4. The exact
@@ -160,7 +175,7 @@ uint32_t tone_seek(int32_t *voice, size_t voice_words, uint64_t position);
  */
 uint32_t tone_play(int32_t *voice, size_t voice_words,
                    const int32_t *book, size_t book_words,
-                   const int32_t *store, size_t store_words, size_t sample_count,
+                   const int32_t *store, size_t store_words,
                    int16_t *out, size_t out_count);
 
 #ifdef __cplusplus

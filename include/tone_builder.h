@@ -39,17 +39,18 @@ extern "C" {
 uint32_t tone_check(const int32_t *book, size_t book_words);
 
 /*
- * The words of a store for `sample_count` samples and the levels 0..`top`: S and
- * its halves, each rounded up. 0 where S is outside 1..TONE_MOST_SAMPLES or T
- * above TONE_MOST_TOP.
+ * The words of a store for `sample_count` samples and the levels 0..`top`: 3 + T
+ * of its header, then S and its halves, each rounded up. 0 where S is outside
+ * 1..TONE_MOST_SAMPLES or T above TONE_MOST_TOP.
  *
  * The answer is storeWords of both (crates/tone_builder/specs/Store.antt).
  */
 size_t tone_store_words(size_t sample_count, uint32_t top);
 
 /*
- * Builds the octave levels 0..`top` of a recording into the store, one after
- * another. S is `sample_count`.
+ * Builds the store of a recording: S, which is `sample_count`, then T, which is
+ * `top`, then the T+1 lengths of the levels 0..T, then these octave levels, one
+ * after another. So a store says all that a unit must know to play it.
  *
  * Numbers: 1 2 3 4 5 6 7, then 8 of S and T, then 9.
  * Writes:  the first tone_store_words(sample_count, top) words of the store. The

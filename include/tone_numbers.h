@@ -37,8 +37,19 @@
  *
  * A filter book is its sizes N, M, A, B, F; M x N impulses and M x N differences,
  * phase q tap k at q x N + k; A+1 level taps h and B+1 decimation taps g, centre
- * first. A store holds the octave levels 0..T of a recording of S samples, one
- * after another; words after them are neither written nor looked at.
+ * first.
+ *
+ * A store holds the octave levels 0..T of a recording of S samples and begins
+ * with a header that names them. All its words are signed.
+ *
+ *   words      what
+ *   0          S, the count of samples
+ *   1          T, the top level
+ *   2..2+T     the lengths of the levels 0..T: S, then each the half of the one
+ *              before it, rounded up
+ *   3+T..      level 0, level 1 and so on to level T, one after another
+ *
+ * Words after the levels are neither written nor looked at.
  */
 
 #ifndef TONE_NUMBERS_H
@@ -61,11 +72,12 @@ enum tone_number {
     TONE_BOOK_SUM = 7,                 /* a sum of absolute values is too large */
 
     /* of the other arguments */
-    TONE_SAMPLES_OR_TOP = 8,           /* S is outside 1..1048576, or T above 4 */
-    TONE_STORE_SHORT = 9,              /* the store is shorter than its levels */
+    TONE_SAMPLES_OR_TOP = 8,           /* S is outside 1..1048576, or T outside 0..4 */
+    TONE_STORE_SHORT = 9,              /* the store is shorter than its header and levels */
     TONE_RATE = 10,                    /* the rate is not from 1/16 up to below 2^(T+1) */
     TONE_COUNT = 11,                   /* a glide's count is outside 1..65536, a play's 0..1048576 */
     TONE_POSITION = 12,                /* the position is beyond 2^60 */
+    TONE_STORE_LEVEL_LENGTH = 18,      /* a level length in the store's header is not the one that its S and T give */
 
     /* of the voice */
     TONE_VOICE_LEVEL = 13,             /* T is above 4, or a level above T */
@@ -74,12 +86,20 @@ enum tone_number {
                                           where c is 0 only R is looked at */
     TONE_VOICE_POSITION = 16,          /* P is beyond 2^60 */
     TONE_VOICE_HISTORY = 17,           /* a point is beyond -2^29..2^29 */
+    TONE_VOICE_TOP = 19,               /* T is not the store's */
     TONE_VOICE_LENGTH = 28             /* the voice's count of words is not TONE_VOICE_WORDS */
+};
+
+/* Where the fields of a store's header stand. */
+enum tone_store_word {
+    TONE_STORE_WORD_SAMPLES = 0,
+    TONE_STORE_WORD_TOP = 1,
+    TONE_STORE_WORD_LENGTHS = 2
 };
 
 #define TONE_MOST_BOOK_WORDS 6231      /* words of the longest accepted book */
 #define TONE_MOST_SAMPLES 1048576      /* the most samples of a recording, S */
 #define TONE_MOST_TOP 4                /* the highest top level, T */
-#define TONE_MOST_STORE_WORDS 2031616  /* words of the levels for the most samples and the highest top level */
+#define TONE_MOST_STORE_WORDS 2031623  /* words of the store for the most samples and the highest top level */
 
 #endif

@@ -19,12 +19,11 @@
 #define MOST_STORE_WORDS 16
 #define MOST_PLAYED 4
 
-/* A book, and the levels that it made of a recording. */
+/* A book, and the store that it made of a recording. */
 struct hum {
     int32_t book[BOOK_WORDS];
     int32_t store[MOST_STORE_WORDS];
     size_t store_words;
-    size_t sample_count;
 };
 
 /* Ends the program where a call that must be accepted is refused. */
@@ -44,7 +43,6 @@ static void build(struct hum *hum, int32_t fade, const int16_t *samples, size_t 
 
     memcpy(hum->book, book, sizeof book);
     must("tone_check", tone_check(hum->book, BOOK_WORDS));
-    hum->sample_count = count;
     hum->store_words = tone_store_words(count, top);
     if (hum->store_words > MOST_STORE_WORDS) {
         fprintf(stderr, "the store needs %lu words\n", (unsigned long)hum->store_words);
@@ -59,8 +57,8 @@ static void play(char letter, int32_t *voice, const struct hum *hum, size_t coun
     int16_t out[MOST_PLAYED];
     size_t k;
 
-    must("tone_play", tone_play(voice, TONE_VOICE_WORDS, hum->book, BOOK_WORDS, hum->store, hum->store_words,
-                                hum->sample_count, out, count));
+    must("tone_play", tone_play(voice, TONE_VOICE_WORDS, hum->book, BOOK_WORDS, hum->store, hum->store_words, out,
+                                count));
     printf("%c", letter);
     for (k = 0; k < count; k++)
         printf(" %d", out[k]);

@@ -1,5 +1,5 @@
 /*
- * A studio's program: tests books, asks how long stores are, and builds the levels
+ * A studio's program: tests books, asks how long stores are, and builds the stores
  * of document 01's bench cases, with its book K. It knows no player. From the
  * repository's root, once `rt staticlib tone_builder` has written the archive:
  *
@@ -33,7 +33,7 @@ static void print_length(size_t sample_count, uint32_t top)
 }
 
 /* Builds a store of the length that it needs, and prints its words after the
- * case's letter. */
+ * case's letter: S, T, the lengths of the levels, then the levels. */
 static void build(char letter, int32_t level_tap, const int16_t *samples, size_t sample_count, uint32_t top)
 {
     int32_t book[BOOK_WORDS];
@@ -64,12 +64,12 @@ static void build(char letter, int32_t level_tap, const int16_t *samples, size_t
 static void refusal(void)
 {
     const int16_t samples[3] = {0, 1000, 2000};
-    const int32_t before[4] = {7, 7, 7, 7};
-    int32_t store[4] = {7, 7, 7, 7};
-    uint32_t number = tone_build(book_k, BOOK_WORDS, samples, 3, 1, store, 4);
+    const int32_t before[8] = {7, 7, 7, 7, 7, 7, 7, 7};
+    int32_t store[8] = {7, 7, 7, 7, 7, 7, 7, 7};
+    uint32_t number = tone_build(book_k, BOOK_WORDS, samples, 3, 1, store, 8);
 
-    printf("B in 4 words: number %lu%s\n", (unsigned long)number,
-           number == TONE_STORE_SHORT ? ", the store is shorter than its levels" : "");
+    printf("B in 8 words: number %lu%s\n", (unsigned long)number,
+           number == TONE_STORE_SHORT ? ", the store is shorter than its header and levels" : "");
     printf("the store is %s\n", memcmp(store, before, sizeof store) == 0 ? "as it was" : "changed");
 }
 

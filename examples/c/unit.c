@@ -14,7 +14,6 @@
 #include "tone.h"
 
 #define BOOK_WORDS 11
-#define TOP 1
 #define MOST_PLAYED 4
 
 /* Book K, and book K with a fade of 4 points. */
@@ -22,19 +21,18 @@ static const int32_t book_k[BOOK_WORDS] = {2, 1, 0, 0, 1, 0, 16384, 16384, -1638
 static const int32_t book_k4[BOOK_WORDS] = {2, 1, 0, 0, 4, 0, 16384, 16384, -16384, 16384, 16384};
 
 /* The stores of cases B and C, as studio.c prints them. */
-static const int32_t store_b[] = {0, 256000, 512000, 0, 512000};
-static const int32_t store_c[] = {0, 256000, 0, 256000, 0, 0};
+static const int32_t store_b[] = {3, 1, 3, 2, 0, 256000, 512000, 0, 512000};
+static const int32_t store_c[] = {4, 1, 4, 2, 0, 256000, 0, 256000, 0, 0};
 
 /* What plays are lent. */
 struct hum {
     const int32_t *book;
     const int32_t *store;
     size_t store_words;
-    size_t sample_count;
 };
 
-static const struct hum hum_b = {book_k, store_b, sizeof store_b / sizeof *store_b, 3};
-static const struct hum hum_c = {book_k4, store_c, sizeof store_c / sizeof *store_c, 4};
+static const struct hum hum_b = {book_k, store_b, sizeof store_b / sizeof *store_b};
+static const struct hum hum_c = {book_k4, store_c, sizeof store_c / sizeof *store_c};
 
 /* Ends the program where a call that must be accepted is refused. */
 static void must(const char *call, uint32_t number)
@@ -45,10 +43,16 @@ static void must(const char *call, uint32_t number)
     }
 }
 
+/* Opens a voice for a store. T stands in the store, which is tested first. */
+static void open_voice(int32_t *voice, float rate, const struct hum *hum)
+{
+    must("tone_check_store", tone_check_store(hum->store, hum->store_words));
+    must("tone_open", tone_open(rate, (uint32_t)hum->store[TONE_STORE_WORD_TOP], voice, TONE_VOICE_WORDS));
+}
+
 static uint32_t play(int32_t *voice, const struct hum *hum, int16_t *out, size_t count)
 {
-    return tone_play(voice, TONE_VOICE_WORDS, hum->book, BOOK_WORDS, hum->store, hum->store_words,
-                     hum->sample_count, out, count);
+    return tone_play(voice, TONE_VOICE_WORDS, hum->book, BOOK_WORDS, hum->store, hum->store_words, out, count);
 }
 
 /* Plays `count` outputs, `step` or fewer at a time, and prints them after the
@@ -71,9 +75,9 @@ static void case_b(void)
 {
     int32_t voice[TONE_VOICE_WORDS];
 
-    must("tone_open", tone_open(2.0f, TOP, voice, TONE_VOICE_WORDS));
+    open_voice(voice, 2.0f, &hum_b);
     print_played('B', voice, &hum_b, 3, 3);
-    must("tone_open", tone_open(2.0f, TOP, voice, TONE_VOICE_WORDS));
+    open_voice(voice, 2.0f, &hum_b);
     print_played('B', voice, &hum_b, 3, 1);
 }
 
@@ -82,7 +86,7 @@ static void case_c(void)
 {
     int32_t voice[TONE_VOICE_WORDS];
 
-    must("tone_open", tone_open(1.0f, TOP, voice, TONE_VOICE_WORDS));
+    open_voice(voice, 1.0f, &hum_c);
     must("tone_jump", tone_jump(voice, TONE_VOICE_WORDS, 2.0f));
     print_played('C', voice, &hum_c, 2, 2);
     printf("level %ld is then current\n", (long)voice[TONE_WORD_OLD_LEVEL]);
@@ -95,7 +99,7 @@ static void refusal(void)
     int16_t out[2] = {77, 77};
     uint32_t number;
 
-    must("tone_open", tone_open(1.0f, TOP, voice, TONE_VOICE_WORDS));
+    open_voice(voice, 1.0f, &hum_b);
     voice[TONE_WORD_POSITION + 1] = -1;
     number = play(voice, &hum_b, out, 2);
     printf("a voice beyond 2^60: number %lu\n", (unsigned long)number);

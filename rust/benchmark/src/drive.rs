@@ -61,9 +61,7 @@ impl Player for tone::Voice {
     }
 
     fn play(&mut self, setting: &Setting, out: &mut [i16]) {
-        let sample_count = setting.samples.len();
-        tone::Voice::play(self, &setting.book, &setting.store, sample_count, out)
-            .expect("an accepted play");
+        tone::Voice::play(self, &setting.book, &setting.store, out).expect("an accepted play");
     }
 }
 
@@ -77,8 +75,7 @@ impl Player for twin::Voice {
     }
 
     fn play(&mut self, setting: &Setting, out: &mut [i16]) {
-        let sample_count = setting.samples.len();
-        let number = twin::Voice::play(self, &setting.book, &setting.store, sample_count, out);
+        let number = twin::Voice::play(self, &setting.book, &setting.store, out);
         assert_eq!(number, 0);
     }
 }

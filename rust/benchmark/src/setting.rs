@@ -31,7 +31,7 @@ pub struct Setting {
     pub samples: Vec<i16>,
     /// The recording as other resamplers take it.
     pub floats: Vec<f32>,
-    /// Its levels 0 to T.
+    /// Its store, with the levels 0 to T.
     pub store: Vec<i32>,
 }
 

@@ -12,6 +12,12 @@ use renderer::random::{
 use std::collections::BTreeSet;
 use tone::archive;
 
+/// Book K of document 01.
+const K: [i32; 11] = [2, 1, 0, 0, 1, 0, 16384, 16384, -16384, 16384, 16384];
+
+/// The largest N of a book.
+const MOST_TAPS: i64 = 24;
+
 /// A number from the environment, or a default.
 fn setting(name: &str, default: u64) -> u64 {
     match std::env::var(name) {
@@ -69,11 +75,11 @@ impl Pair {
         number
     }
 
-    fn play(&mut self, book: &[i32], store: &[i32], samples: usize, outputs: usize) -> u32 {
+    fn play(&mut self, book: &[i32], store: &[i32], outputs: usize) -> u32 {
         let mut out = vec![9; outputs];
         let mut twin_out = out.clone();
-        let number = archive::play(&mut self.words, book, store, samples, &mut out);
-        let twin_number = self.twin.play(book, store, samples, &mut twin_out);
+        let number = archive::play(&mut self.words, book, store, &mut out);
+        let twin_number = self.twin.play(book, store, &mut twin_out);
         assert_eq!(number, twin_number, "play {outputs}");
         assert!(out == twin_out, "outputs of play {outputs}");
         self.same();
@@ -85,8 +91,44 @@ impl Pair {
 struct Lent {
     book: Vec<i32>,
     store: Vec<i32>,
-    samples: usize,
+    /// The number of the book, or else of the store: no voice goes before it.
+    number: u32,
+    /// S and T that the store was built with.
+    sample_count: usize,
     top: u32,
+}
+
+/// The numbers that were seen at each call.
+#[derive(Default)]
+struct Seen {
+    build: BTreeSet<u32>,
+    check_store: BTreeSet<u32>,
+    jump: BTreeSet<u32>,
+    glide: BTreeSet<u32>,
+    seek: BTreeSet<u32>,
+    play: BTreeSet<u32>,
+}
+
+impl Seen {
+    /// Every number at every call that can give it, but for 11 of play, which
+    /// [`longest_play`] has.
+    fn all(&self) {
+        assert_eq!(self.build, (0..=9).collect(), "numbers of build");
+        assert_eq!(self.check_store, [0, 8, 9, 18].into(), "of check_store");
+        let of_order = [0, 10, 13, 15, 16, 17];
+        assert_eq!(self.jump, of_order.into(), "numbers of jump");
+        let of_glide = of_order.into_iter().chain([11]);
+        assert_eq!(self.glide, of_glide.collect(), "numbers of glide");
+        let of_seek = [0, 12, 13, 15, 16, 17];
+        assert_eq!(self.seek, of_seek.into(), "numbers of seek");
+        let of_play = (0..=9).chain(13..=19);
+        assert_eq!(self.play, of_play.collect(), "numbers of play");
+    }
+}
+
+/// A rate that is accepted for T.
+fn good_rate(rng: &mut Rng, top: u32) -> f32 {
+    random_rate(rng, u64::from(top))
 }
 
 /// A book with one impulse or a centre tap moved by one, and right differences:
@@ -106,7 +148,7 @@ fn nudged(rng: &mut Rng, book: &[i32]) -> Vec<i32> {
 
 /// A book, damaged once in a while.
 fn lent_book(rng: &mut Rng) -> Vec<i32> {
-    let mut book = random_book(rng);
+    let mut book = random_book(rng, MOST_TAPS);
     match rng.below(12) {
         0 => {
             let at = rng.below(book.len() as u64) as usize;
@@ -129,78 +171,111 @@ fn lent_book(rng: &mut Rng) -> Vec<i32> {
     book
 }
 
-/// The store by both builders, then, once in a while, with words of any size.
-fn lent(rng: &mut Rng, built: &mut BTreeSet<u32>) -> Lent {
-    let top = rng.below(5) as u32;
-    let book = lent_book(rng);
-    let most = rng.pick(&[3, 40, 3000]);
-    let samples = 1 + rng.below(most) as usize;
-    let recording = random_recording(rng, samples);
-    let words = twin::store_words(samples, top);
-    assert_eq!(words, archive::store_words(samples, top));
+/// The store of a recording by both builders, perhaps in a slice of another
+/// length or with a T out of range. One that was not built is all of one word.
+fn built_store(rng: &mut Rng, book: &[i32], sample_count: usize, top: u32) -> (u32, Vec<i32>) {
+    let recording = random_recording(rng, sample_count);
+    let words = twin::store_words(sample_count, top);
+    assert_eq!(words, archive::store_words(sample_count, top));
     let spare = rng.below(3) as usize;
     let mut store = vec![77; (words + spare).saturating_sub(usize::from(rng.one_in(30)))];
     let mut twin_store = store.clone();
     let asked = if rng.one_in(30) { 5 } else { top };
-    let number = archive::build(&book, &recording, asked, &mut store);
-    let twin_number = twin::build(&book, &recording, asked, &mut twin_store);
+    let number = archive::build(book, &recording, asked, &mut store);
+    let twin_number = twin::build(book, &recording, asked, &mut twin_store);
     assert_eq!(number, twin_number, "build");
     assert!(store == twin_store, "store");
-    built.insert(number);
-    match rng.below(4) {
-        0 => store.fill_with(|| rng.word() as i32),
-        1 => {
-            for word in store.iter_mut() {
+    (number, store)
+}
+
+/// Words of a store before its levels.
+fn header_words(top: u32) -> usize {
+    top as usize + 3
+}
+
+/// Damages a store once in a while: its levels, which may hold anything, or its
+/// header, or its length.
+fn disturb_store(rng: &mut Rng, store: &mut Vec<i32>, top: u32) {
+    let header = header_words(top);
+    match rng.below(12) {
+        0..=2 => store[header..].fill_with(|| rng.word() as i32),
+        3..=5 => {
+            for word in &mut store[header..] {
                 if rng.one_in(20) {
                     *word = wild_i32(rng);
                 }
             }
         }
+        6 => {
+            let at = rng.below(header as u64) as usize;
+            store[at] = match rng.below(3) {
+                0 => wild_i32(rng),
+                _ => store[at] + rng.pick(&[-1, 1]),
+            };
+        }
+        7 => store.truncate(rng.below(store.len() as u64 + 1) as usize),
         _ => (),
     }
+}
+
+/// A book and a store, each at times damaged.
+fn lent(rng: &mut Rng, seen: &mut Seen) -> Lent {
+    let top = rng.below(5) as u32;
+    let book = lent_book(rng);
+    let most = rng.pick(&[3, 40, 3000]);
+    let sample_count = 1 + rng.below(most) as usize;
+    let (number, mut store) = built_store(rng, &book, sample_count, top);
+    seen.build.insert(number);
+    disturb_store(rng, &mut store, top);
+    let store_number = archive::check_store(&store);
+    assert_eq!(store_number, twin::check_store(&store), "check_store");
+    seen.check_store.insert(store_number);
+    let numbers = [archive::check(&book), store_number];
     Lent {
         book,
         store,
-        samples,
+        number: numbers.into_iter().find(|number| *number != 0).unwrap_or(0),
+        sample_count,
         top,
     }
 }
 
-/// One call; its number is kept by the call's name.
-fn call(rng: &mut Rng, pair: &mut Pair, lent: &Lent, seen: &mut [BTreeSet<u32>; 4]) {
+/// One call; its number is kept.
+fn call(rng: &mut Rng, pair: &mut Pair, lent: &Lent, seen: &mut Seen) {
     let rate = |rng: &mut Rng| {
         if rng.one_in(9) {
-            bad_rate(rng, lent.top)
+            bad_rate(rng, u64::from(lent.top))
         } else {
-            random_rate(rng, lent.top)
+            good_rate(rng, lent.top)
         }
     };
-    let (call, number) = match rng.below(9) {
-        0 => (0, pair.jump(rate(rng))),
+    let (numbers, number) = match rng.below(9) {
+        0 => (&mut seen.jump, pair.jump(rate(rng))),
         1 => {
             let count = match rng.below(3) {
                 0 => rng.pick(&[0, 1, 65535, 65536, 65537, u32::MAX]),
                 _ => rng.below(300) as u32,
             };
-            (1, pair.glide(rate(rng), count))
+            (&mut seen.glide, pair.glide(rate(rng), count))
         }
         2 => {
-            let end = (lent.samples as u64 + 40) << 28;
+            let end = (lent.sample_count as u64 + 40) << 28;
             let position = match rng.below(9) {
                 0 => wild_u64(rng),
                 1 => (1 << 60) - rng.below(1 << 36),
                 _ => rng.below(end),
             };
-            (2, pair.seek(position))
+            (&mut seen.seek, pair.seek(position))
         }
         _ => {
-            let samples = if rng.one_in(40) { 0 } else { lent.samples };
             let most = rng.pick(&[4, 70, 400]);
             let outputs = rng.below(most) as usize;
-            (3, pair.play(&lent.book, &lent.store, samples, outputs))
+            let number = pair.play(&lent.book, &lent.store, outputs);
+            assert!(lent.number == 0 || lent.number == number, "play {outputs}");
+            (&mut seen.play, number)
         }
     };
-    seen[call].insert(number);
+    numbers.insert(number);
 }
 
 /// Words at and just beyond the limits of a voice's fields.
@@ -217,12 +292,14 @@ const LIMITS: [i32; 10] = [
     -(1 << 29) - 1,
 ];
 
-/// Damages a word or two of the voice, or makes it a fresh one, at times with a
-/// fade in some place.
+/// Damages a word or two of the voice, or makes it a fresh one, at times for
+/// another T or with a fade in some place.
 fn disturb(rng: &mut Rng, pair: &mut Pair, lent: &Lent) {
     let mut words = pair.words;
     if rng.one_in(2) {
-        (_, *pair) = Pair::open(random_rate(rng, lent.top), lent.top);
+        let other = rng.below(5) as u32;
+        let top = if rng.one_in(8) { other } else { lent.top };
+        (_, *pair) = Pair::open(good_rate(rng, top), top);
         if rng.one_in(3) {
             let fade = lent.book.get(4).copied().unwrap_or(1);
             words = pair.words;
@@ -254,13 +331,12 @@ fn drives() {
     let first = setting("TWIN_SEED", 1);
     let count = setting("TWIN_COUNT", 3000);
     println!("TWIN_SEED={first} TWIN_COUNT={count}");
-    let mut built = BTreeSet::new();
-    let mut seen = [const { BTreeSet::new() }; 4];
+    let mut seen = Seen::default();
     for seed in first..first + count {
         println!("drive {seed}: repeat by TWIN_SEED={seed} TWIN_COUNT=1");
         let mut rng = Rng::new(seed);
-        let lent = lent(&mut rng, &mut built);
-        let (_, mut pair) = Pair::open(random_rate(&mut rng, lent.top), lent.top);
+        let lent = lent(&mut rng, &mut seen);
+        let (_, mut pair) = Pair::open(good_rate(&mut rng, lent.top), lent.top);
         for _ in 0..24 {
             call(&mut rng, &mut pair, &lent, &mut seen);
             if rng.one_in(6) {
@@ -269,14 +345,7 @@ fn drives() {
         }
     }
     if count >= 3000 {
-        assert_eq!(built, BTreeSet::from_iter(0..=9), "numbers of build");
-        let of_order = [0, 10, 13, 15, 16, 17];
-        let of_play = (0..=9).chain(13..=17);
-        assert_eq!(seen[0], of_order.into(), "numbers of jump");
-        let of_glide = of_order.into_iter().chain([11]);
-        assert_eq!(seen[1], of_glide.collect(), "numbers of glide");
-        assert_eq!(seen[2], [0, 12, 13, 15, 16, 17].into(), "numbers of seek");
-        assert_eq!(seen[3], of_play.collect(), "numbers of play");
+        seen.all();
     }
 }
 
@@ -286,7 +355,7 @@ fn openings() {
     let mut seen = BTreeSet::new();
     for top in [0, 1, 2, 3, 4, 5, u32::MAX] {
         for _ in 0..200 {
-            let near = top.min(4);
+            let near = u64::from(top.min(4));
             seen.insert(Pair::open(random_rate(&mut rng, near), top).0);
             seen.insert(Pair::open(bad_rate(&mut rng, near), top).0);
         }
@@ -296,16 +365,73 @@ fn openings() {
 
 #[test]
 fn longest_play() {
-    let book = [2, 1, 0, 0, 1, 0, 16384, 16384, -16384, 16384, 16384];
-    let store = [0, 256_000, 512_000];
+    let store = [3, 0, 3, 0, 256_000, 512_000];
     let (_, mut pair) = Pair::open(1.0, 0);
-    assert_eq!(pair.play(&book, &store, 3, 1_048_577), 11);
-    assert_eq!(pair.play(&book, &store, 3, 1_048_576), 0);
+    assert_eq!(pair.play(&K, &store, 1_048_577), 11);
+    assert_eq!(pair.play(&K, &store, 1_048_576), 0);
     // A word of history beyond its limit comes first.
     let mut words = pair.words;
     words[94] = (1 << 29) + 1;
     pair.set(words);
-    assert_eq!(pair.play(&book, &store, 3, 1_048_577), 17);
+    assert_eq!(pair.play(&K, &store, 1_048_577), 17);
+}
+
+#[test]
+fn lengths_of_stores() {
+    for sample_count in [
+        0,
+        1,
+        2,
+        3,
+        31,
+        33,
+        1_048_575,
+        1_048_576,
+        1_048_577,
+        usize::MAX,
+    ] {
+        for top in [0, 1, 2, 3, 4, 5, u32::MAX] {
+            let words = archive::store_words(sample_count, top);
+            assert_eq!(twin::store_words(sample_count, top), words);
+        }
+    }
+}
+
+/// The numbers of plays of a store with voices of every T, and one above all.
+fn numbers_at_play(store: &[i32]) -> BTreeSet<u32> {
+    assert_eq!(archive::check_store(store), twin::check_store(store));
+    let number = |top: i32| {
+        let (_, mut pair) = Pair::open(1.0, 0);
+        let mut words = pair.words;
+        words[0] = top;
+        pair.set(words);
+        pair.play(&K, store, 3)
+    };
+    (0..=5).map(number).collect()
+}
+
+/// Each word of a header damaged, and each length of a slice.
+#[test]
+fn headers() {
+    let mut seen = BTreeSet::new();
+    for top in 0..5 {
+        let mut store = vec![77; twin::store_words(7, top) + 1];
+        assert_eq!(twin::build(&K, &[1000; 7], top, &mut store), 0);
+        for length in 0..=store.len() {
+            seen.extend(numbers_at_play(&store[..length]));
+        }
+        for at in 0..header_words(top) {
+            let word = store[at];
+            let near = [word - 1, word + 1, -word, 0, -1, 5];
+            let far = [1_048_576, 1_048_577, i32::MIN, i32::MAX];
+            for damaged in near.into_iter().chain(far) {
+                store[at] = damaged;
+                seen.extend(numbers_at_play(&store));
+            }
+            store[at] = word;
+        }
+    }
+    assert_eq!(seen, [0, 8, 9, 13, 18, 19].into());
 }
 
 /// At the end of all positions, where the advance stops.
@@ -313,17 +439,15 @@ fn longest_play() {
 fn last_position() {
     let mut rng = Rng::new(8);
     for top in 0..5 {
-        let lent = Lent {
-            book: random_book(&mut rng),
-            store: vec![1 << 20; twin::store_words(50, top)],
-            samples: 50,
-            top,
-        };
+        let book = random_book(&mut rng, MOST_TAPS);
+        let mut store = vec![0; twin::store_words(50, top)];
+        assert_eq!(twin::build(&book, &[0; 50], top, &mut store), 0);
+        store[header_words(top)..].fill(1 << 20);
         for back in [0, 1, 1 << 23, 1 << 30, 1 << 38, 1 << 39, 1 << 40] {
-            let (_, mut pair) = Pair::open(random_rate(&mut rng, top), top);
+            let (_, mut pair) = Pair::open(good_rate(&mut rng, top), top);
             assert_eq!(pair.seek((1 << 60) - back), 0);
             for outputs in [1, 63, 64, 65, 200] {
-                assert_eq!(pair.play(&lent.book, &lent.store, 50, outputs), 0);
+                assert_eq!(pair.play(&book, &store, outputs), 0);
             }
         }
     }

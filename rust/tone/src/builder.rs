@@ -15,11 +15,11 @@ pub fn check(book: &[i32]) -> Result<(), Refusal> {
 }
 
 /// The words of a store for a recording of `sample_count` samples and a top
-/// level; none where one of the two is outside its range.
+/// level, header and levels; none where one of the two is outside its range.
 ///
 /// ```
-/// assert_eq!(tone::store_words(3, 1), Some(5));
-/// assert_eq!(tone::store_words(1_048_576, 4), Some(2_031_616));
+/// assert_eq!(tone::store_words(3, 1), Some(9));
+/// assert_eq!(tone::store_words(1_048_576, 4), Some(2_031_623));
 /// assert_eq!(tone::store_words(0, 1), None);
 /// assert_eq!(tone::store_words(3, 5), None);
 /// ```
@@ -27,17 +27,18 @@ pub fn store_words(sample_count: usize, top: u32) -> Option<usize> {
     Some(archive::store_words(sample_count, top)).filter(|words| *words != 0)
 }
 
-/// The level builder: writes the octave levels 0..T of a recording into a
-/// store. Words after the levels are left. Refused 1 to 9; then no word of the
-/// store is written.
+/// The level builder: writes the store of a recording, which is S, T, the lengths
+/// of the octave levels 0..T, then these levels. Words after the levels are left.
+/// Refused 1 to 9; then no word of the store is written.
 ///
 /// ```
 /// let book = [2, 1, 0, 0, 1, 0, 16384, 16384, -16384, 16384, 16384];
-/// let mut store = [7; 6];
+/// let mut store = [7; 10];
 /// tone::build(&book, &[0, 1000, 2000], 1, &mut store)?;
-/// assert_eq!(store, [0, 256000, 512000, 0, 512000, 7]);
+/// // S 3, T 1, three words of level 0 and two of level 1.
+/// assert_eq!(store, [3, 1, 3, 2, 0, 256000, 512000, 0, 512000, 7]);
 ///
-/// let refusal = tone::build(&book, &[0, 1000, 2000], 1, &mut [0; 4]).unwrap_err();
+/// let refusal = tone::build(&book, &[0, 1000, 2000], 1, &mut [0; 8]).unwrap_err();
 /// assert_eq!(refusal.number(), 9);
 /// # Ok::<(), tone::Refusal>(())
 /// ```

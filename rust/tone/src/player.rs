@@ -1,5 +1,5 @@
-//! The unit's half: a voice, with open, jump, glide, seek and play. It plays
-//! stores that a studio built.
+//! The unit's half: the check of a store that a studio built, and a voice that
+//! plays it, with open, jump, glide, seek and play.
 
 use crate::archive;
 use crate::Refusal;
@@ -12,6 +12,41 @@ pub const MOST_OUTPUTS: usize = 1_048_576;
 
 /// The most outputs of one glide.
 pub const MOST_GLIDE: u32 = 65_536;
+
+/// Where T stands in a store.
+const STORE_TOP: usize = 1;
+
+/// Tests a store, as play does: refused 9 for fewer than two words, 8 for S or T,
+/// 9 for fewer words than they call for, 18 for a level length that is not the
+/// one that they give. The words of the levels may be anything.
+///
+/// ```
+/// use tone::check_store;
+///
+/// // S 3, T 0, level 0 of three words.
+/// check_store(&[3, 0, 3, 0, 256_000, 512_000])?;
+/// assert_eq!(check_store(&[0, 0, 3, 0, 0, 0]).unwrap_err().number(), 8);
+/// assert_eq!(check_store(&[3, 0, 3, 0, 0]).unwrap_err().number(), 9);
+/// assert_eq!(check_store(&[3, 0, 2, 0, 0, 0]).unwrap_err().number(), 18);
+/// # Ok::<(), tone::Refusal>(())
+/// ```
+pub fn check_store(store: &[i32]) -> Result<(), Refusal> {
+    Refusal::answer(archive::check_store(store))
+}
+
+/// T of a store, for which a voice is opened. Refused as by [`check_store`].
+///
+/// ```
+/// let store = [3, 1, 3, 2, 0, 256_000, 512_000, 0, 512_000];
+/// assert_eq!(tone::top_level(&store)?, 1);
+/// assert_eq!(tone::top_level(&store[..8]).unwrap_err().number(), 9);
+/// # Ok::<(), tone::Refusal>(())
+/// ```
+pub fn top_level(store: &[i32]) -> Result<u32, Refusal> {
+    check_store(store)?;
+    // An accepted store has this word, and it is 0..4.
+    Ok(store[STORE_TOP] as u32)
+}
 
 /// A voice: all that a drive has come to, as [`VOICE_WORDS`] words.
 ///
@@ -35,16 +70,16 @@ pub const MOST_GLIDE: u32 = 65_536;
 /// A voice made of any words is accepted or refused by number at each call.
 ///
 /// ```
-/// use tone::Voice;
+/// use tone::{top_level, Voice};
 ///
 /// // Linear interpolation, no filters: document 01's book K.
 /// let book = [2, 1, 0, 0, 1, 0, 16384, 16384, -16384, 16384, 16384];
-/// // Level 0 of the samples 0, 1000, 2000: each times 256.
-/// let store = [0, 256_000, 512_000];
+/// // S 3, T 0 and level 0 of the samples 0, 1000, 2000: each times 256.
+/// let store = [3, 0, 3, 0, 256_000, 512_000];
 ///
-/// let mut voice = Voice::open(1.0, 0)?;
+/// let mut voice = Voice::open(1.0, top_level(&store)?)?;
 /// let mut out = [0; 4];
-/// voice.play(&book, &store, 3, &mut out)?;
+/// voice.play(&book, &store, &mut out)?;
 /// assert_eq!(out, [500, 1500, 1000, 0]);
 /// # Ok::<(), tone::Refusal>(())
 /// ```
@@ -113,41 +148,29 @@ impl Voice {
         Refusal::answer(archive::seek(&mut self.words, position))
     }
 
-    /// Fills `out` with the next samples. `sample_count` is the S that the
-    /// store was built with. Refused 1 to 9 for book and store, 13 to
-    /// 17 for the voice, 11 for more than 1048576 outputs; then neither `out`
-    /// nor the voice is changed.
+    /// Fills `out` with the next samples. Refused 1 to 7 for the book, 9, 8, 9
+    /// or 18 for the store (see [`check_store`]), 13 for the voice, 19 where its
+    /// T is not the store's, 14 to 17 for the voice, 11 for more than 1048576
+    /// outputs; then neither `out` nor the voice is changed.
     ///
     /// However a stretch of outputs is cut into plays, the samples and the
     /// voice at its end are the same.
     ///
     /// ```
     /// # let book = [2, 1, 0, 0, 1, 0, 16384, 16384, -16384, 16384, 16384];
-    /// # let store = [0, 256_000, 512_000];
+    /// # let store = [3, 0, 3, 0, 256_000, 512_000];
     /// let mut whole = tone::Voice::open(1.0, 0)?;
     /// let mut cut = whole.clone();
     /// let mut out = [0; 4];
-    /// whole.play(&book, &store, 3, &mut out)?;
+    /// whole.play(&book, &store, &mut out)?;
     /// let mut parts = [0; 4];
     /// for part in parts.chunks_mut(3) {
-    ///     cut.play(&book, &store, 3, part)?;
+    ///     cut.play(&book, &store, part)?;
     /// }
     /// assert_eq!((parts, cut), (out, whole));
     /// # Ok::<(), tone::Refusal>(())
     /// ```
-    pub fn play(
-        &mut self,
-        book: &[i32],
-        store: &[i32],
-        sample_count: usize,
-        out: &mut [i16],
-    ) -> Result<(), Refusal> {
-        Refusal::answer(archive::play(
-            &mut self.words,
-            book,
-            store,
-            sample_count,
-            out,
-        ))
+    pub fn play(&mut self, book: &[i32], store: &[i32], out: &mut [i16]) -> Result<(), Refusal> {
+        Refusal::answer(archive::play(&mut self.words, book, store, out))
     }
 }

@@ -35,7 +35,7 @@ impl Refusal {
         }
     }
 
-    /// Document 01's number.
+    /// The number that documents 01 and 02 give it.
     pub fn number(self) -> u32 {
         self.number
     }
@@ -50,8 +50,8 @@ impl Refusal {
             5 => "the first impulse of the book's first phase is not 0",
             6 => "a difference of the book is wrong",
             7 => "a sum of absolute values in the book is too large",
-            8 => "the count of samples is outside 1..1048576, or the top level above 4",
-            9 => "the store is shorter than its levels",
+            8 => "the count of samples is outside 1..1048576, or the top level outside 0..4",
+            9 => "the store is shorter than its header and levels",
             10 => "the rate is not from 1/16 up to below 2^(T+1)",
             11 => "the count of outputs is outside its range (a glide 1..65536, a play 0..1048576)",
             12 => "the position is beyond 2^60",
@@ -60,6 +60,8 @@ impl Refusal {
             15 => "a rate of the voice, or its glide, is outside its range",
             16 => "the voice's position is beyond 2^60",
             17 => "a point of the voice's history is beyond 2^29 in magnitude",
+            18 => "a level length in the store's header is not the one that its S and T give",
+            19 => "the voice's top level is not the store's",
             VOICE_LENGTH => "the voice is not 95 words long",
             _ => "a number without a meaning here",
         }

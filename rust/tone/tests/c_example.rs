@@ -5,6 +5,7 @@
 mod places;
 
 use places::{archive_dir, repository};
+use std::collections::BTreeMap;
 use std::env;
 use std::fs;
 use std::path::{Path, PathBuf};
@@ -174,6 +175,7 @@ fn each_archive_exports_its_half_and_needs_no_other() {
     assert_eq!(
         player,
         [
+            "tone_check_store",
             "tone_glide",
             "tone_jump",
             "tone_open",
@@ -274,4 +276,40 @@ fn the_headers_and_the_library_agree() {
     assert_eq!(constant("TONE_MOST_GLIDE"), tone::MOST_GLIDE as usize);
     let largest = tone::store_words(tone::MOST_SAMPLES, tone::MOST_TOP);
     assert_eq!(Some(constant("TONE_MOST_STORE_WORDS")), largest);
+}
+
+/// The names and values of an enumeration of the header that both share.
+fn enumeration(name: &str) -> BTreeMap<String, usize> {
+    let header = fs::read_to_string(repository().join("include/tone_numbers.h")).unwrap();
+    let (_, rest) = header.split_once(&format!("enum {name} {{")).unwrap();
+    let (body, _) = rest.split_once("};").unwrap();
+    let entries = body.lines().filter_map(|line| line.split_once(" = "));
+    let entry = |(name, value): (&str, &str)| {
+        let digits = value.split(|letter: char| !letter.is_ascii_digit());
+        let value = digits.take(1).collect::<String>();
+        (name.trim().to_owned(), value.parse().unwrap())
+    };
+    entries.map(entry).collect()
+}
+
+#[test]
+fn the_headers_name_every_number() {
+    let mut numbers: Vec<usize> = enumeration("tone_number").into_values().collect();
+    numbers.sort();
+    let voice_length = tone::VOICE_LENGTH as usize;
+    assert_eq!(numbers, Vec::from_iter((0..=19).chain([voice_length])));
+}
+
+/// The names of a store's header words are where the builder writes them.
+#[test]
+fn the_headers_name_the_words_of_a_store() {
+    let book = [2, 1, 0, 0, 1, 0, 16384, 16384, -16384, 16384, 16384];
+    let mut store = vec![0; tone::store_words(5, 2).unwrap()];
+    tone::build(&book, &[7; 5], 2, &mut store).unwrap();
+    let words = enumeration("tone_store_word");
+    let at = |name: &str| words[&format!("TONE_STORE_WORD_{name}")];
+    assert_eq!(store[at("SAMPLES")], 5);
+    assert_eq!(store[at("TOP")], 2);
+    assert_eq!(store[at("LENGTHS")..][..3], [5, 3, 2]);
+    assert_eq!(words.len(), 3);
 }

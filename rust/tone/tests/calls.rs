@@ -1,6 +1,7 @@
 //! Document 01's bench cases and every refusal number, through the crate.
 
-use tone::{archive, build, check, store_words, Refusal, Voice, VOICE_LENGTH, VOICE_WORDS};
+use tone::{archive, build, check, check_store, store_words, top_level};
+use tone::{Refusal, Voice, VOICE_LENGTH, VOICE_WORDS};
 
 /// Book K with another F, h[0] and g[0].
 fn book_k(f: i32, h: i32, g: i32) -> Vec<i32> {
@@ -26,12 +27,12 @@ fn drive(
     count: usize,
 ) -> (Vec<i16>, Voice) {
     let store = store_of(book, samples, top);
-    let mut voice = Voice::open(rates[0], top).unwrap();
+    let mut voice = Voice::open(rates[0], top_level(&store).unwrap()).unwrap();
     for rate in &rates[1..] {
         voice.jump(*rate).unwrap();
     }
     let mut out = vec![0; count];
-    voice.play(book, &store, samples.len(), &mut out).unwrap();
+    voice.play(book, &store, &mut out).unwrap();
     (out, voice)
 }
 
@@ -90,7 +91,7 @@ fn glides_of_case_h_and_after() {
         let mut voice = Voice::open(from, 1).unwrap();
         voice.glide(to, count).unwrap();
         let step = |_| {
-            voice.play(&book, &store, 8, &mut [0]).unwrap();
+            voice.play(&book, &store, &mut [0]).unwrap();
             fixed_rate(&voice)
         };
         (0..count).map(step).collect::<Vec<_>>()
@@ -113,7 +114,7 @@ fn limits_of_counts_and_positions() {
     assert_eq!(wide(voice.words(), 12), 1 << 60);
     let store = store_of(&plain_k(), &[0; 3], 0);
     let before = voice.clone();
-    voice.play(&plain_k(), &store, 3, &mut []).unwrap();
+    voice.play(&plain_k(), &store, &mut []).unwrap();
     assert_eq!(voice, before);
 }
 
@@ -143,11 +144,11 @@ fn books_that_are_refused() {
     for (at, book) in refused_books().iter().enumerate() {
         let expected = at as u32 + 1;
         assert_eq!(number(check(book)), expected);
-        let mut space = [77; 3];
+        let mut space = [77; 6];
         assert_eq!(number(build(book, &[5; 3], 0, &mut space)), expected);
-        assert_eq!(space, [77; 3]);
+        assert_eq!(space, [77; 6]);
         let (mut voice, mut out) = (fresh.clone(), [77; 3]);
-        assert_eq!(number(voice.play(book, &store, 3, &mut out)), expected);
+        assert_eq!(number(voice.play(book, &store, &mut out)), expected);
         assert_eq!((voice, out), (fresh.clone(), [77; 3]));
     }
 }
@@ -155,16 +156,49 @@ fn books_that_are_refused() {
 #[test]
 fn stores_that_are_refused() {
     let book = plain_k();
-    assert_eq!(number(build(&book, &[], 0, &mut [0; 3])), 8);
-    assert_eq!(number(build(&book, &[1], 5, &mut [0; 9])), 8);
-    assert_eq!(number(build(&book, &[1; 3], 1, &mut [0; 4])), 9);
+    assert_eq!(number(build(&book, &[], 0, &mut [0; 6])), 8);
+    assert_eq!(number(build(&book, &[1], 5, &mut [0; 16])), 8);
+    assert_eq!(number(build(&book, &[1; 3], 1, &mut [0; 8])), 9);
     assert_eq!(number(Voice::open(1.0, 5)), 8);
-    let mut voice = Voice::open(1.0, 1).unwrap();
-    let mut out = [77; 2];
-    assert_eq!(number(voice.play(&book, &[0; 9], 0, &mut out)), 8);
-    assert_eq!(number(voice.play(&book, &[0; 9], 1 << 21, &mut out)), 8);
-    assert_eq!(number(voice.play(&book, &[0; 4], 3, &mut out)), 9);
-    assert_eq!(out, [77; 2]);
+    let built = store_of(&book, &[1; 3], 1);
+    let changed = |at: usize, word: i32| {
+        let mut store = built.clone();
+        store[at] = word;
+        store
+    };
+    let cases = [
+        (9, built[..1].to_vec()),
+        (8, changed(0, 0)),
+        (8, changed(0, 1 << 21)),
+        (8, changed(1, -1)),
+        (8, changed(1, 5)),
+        (9, built[..8].to_vec()),
+        (18, changed(2, 4)),
+        (18, changed(3, 1)),
+    ];
+    let fresh = Voice::open(1.0, 1).unwrap();
+    for (expected, store) in cases {
+        let (mut voice, mut out) = (fresh.clone(), [77; 2]);
+        assert_eq!(number(check_store(&store)), expected);
+        assert_eq!(number(voice.play(&book, &store, &mut out)), expected);
+        assert_eq!((voice, out), (fresh.clone(), [77; 2]));
+    }
+    assert_eq!(check_store(&built), Ok(()));
+}
+
+/// A store as it was before it named its levels: the samples stand where the
+/// header should.
+#[test]
+fn stores_without_a_header() {
+    let book = plain_k();
+    let levels_of = |samples: &[i16]| store_of(&book, samples, 0)[3..].to_vec();
+    assert_eq!(number(check_store(&levels_of(&[0, 1000, 2000]))), 8);
+    assert_eq!(number(check_store(&levels_of(&[-1; 2000]))), 8);
+    assert_eq!(number(check_store(&levels_of(&[1; 2000]))), 8);
+    // 4 x 256 and 0 pass for S and T
+    let quiet = |count: usize| [&[4, 0][..], &vec![5; count]].concat();
+    assert_eq!(number(check_store(&levels_of(&quiet(1000)))), 9);
+    assert_eq!(number(check_store(&levels_of(&quiet(2000)))), 18);
 }
 
 #[test]
@@ -173,8 +207,15 @@ fn voices_that_are_refused() {
     let store = store_of(&book, &[5; 3], 1);
     let fresh = Voice::open(1.0, 1).unwrap();
     let cases = [
+        (13, with(&fresh, &[(0, 5)])),
+        (13, with(&fresh, &[(0, -1)])),
         (13, with(&fresh, &[(1, 2), (2, 2)])),
+        (13, with(&fresh, &[(0, 2), (2, 3)])),
+        (19, with(&fresh, &[(0, 2)])),
+        (19, with(&fresh, &[(0, 0)])),
+        (19, with(&fresh, &[(0, 2), (3, 1), (5, 1)])),
         (14, with(&fresh, &[(3, 1)])),
+        (14, with(&fresh, &[(3, 1), (5, 1)])),
         (15, with(&fresh, &[(5, 1)])),
         (16, with(&fresh, &[(12, 1), (13, 1 << 28)])),
         (17, with(&fresh, &[(94, (1 << 29) + 1)])),
@@ -182,10 +223,10 @@ fn voices_that_are_refused() {
     ];
     for (expected, damaged) in cases {
         let (mut voice, mut out) = (damaged.clone(), [77; 2]);
-        let played = voice.play(&book, &store, 3, &mut out);
+        let played = voice.play(&book, &store, &mut out);
         assert_eq!((number(played), out), (expected, [77; 2]));
-        // Without a book there is no F, so 14 is for play alone.
-        if expected != 14 {
+        // 14 needs a book's F and 19 a store's T, so both are for play alone.
+        if ![14, 19].contains(&expected) {
             assert_eq!(number(voice.jump(1.0)), expected);
             assert_eq!(number(voice.glide(1.0, 1)), expected);
             assert_eq!(number(voice.seek(0)), expected);
@@ -200,10 +241,10 @@ fn a_slice_of_too_many_outputs() {
     let store = store_of(&book, &[0, 1000, 2000], 0);
     let fresh = Voice::open(1.0, 0).unwrap();
     let (mut voice, mut out) = (fresh.clone(), vec![77; 1_048_577]);
-    assert_eq!(number(voice.play(&book, &store, 3, &mut out)), 11);
+    assert_eq!(number(voice.play(&book, &store, &mut out)), 11);
     assert_eq!(voice, fresh);
     assert!(out.iter().all(|sample| *sample == 77));
-    voice.play(&book, &store, 3, &mut out[..1_048_576]).unwrap();
+    voice.play(&book, &store, &mut out[..1_048_576]).unwrap();
     assert_eq!(out[..4], [500, 1500, 1000, 0]);
     assert_eq!(out[1_048_575..], [0, 77]);
 }
@@ -220,12 +261,9 @@ fn voice_slices_of_another_length() {
         assert_eq!(archive::jump(&mut voice, 1.0), VOICE_LENGTH);
         assert_eq!(archive::glide(&mut voice, 1.0, 1), VOICE_LENGTH);
         assert_eq!(archive::seek(&mut voice, 0), VOICE_LENGTH);
-        let played = archive::play(&mut voice, &book, &store, 3, &mut out);
+        let played = archive::play(&mut voice, &book, &store, &mut out);
         assert_eq!(played, VOICE_LENGTH);
-        assert_eq!(
-            archive::play(&mut voice, &[], &[], 0, &mut out),
-            VOICE_LENGTH
-        );
+        assert_eq!(archive::play(&mut voice, &[], &[], &mut out), VOICE_LENGTH);
         assert_eq!((voice, out), (vec![77; length], [77; 2]));
     }
 }
@@ -233,15 +271,35 @@ fn voice_slices_of_another_length() {
 #[test]
 fn every_number_has_a_meaning() {
     let book = plain_k();
+    let store = [1, 0, 1, 256];
+    let of_another_top = Voice::open(1.0, 1).unwrap().play(&book, &store, &mut []);
     let refusals = [
         check(&[]).unwrap_err(),
         build(&book, &[], 0, &mut []).unwrap_err(),
         Voice::open(1.0, 5).unwrap_err(),
         Voice::from_words([0; VOICE_WORDS]).jump(1.0).unwrap_err(),
+        check_store(&[]).unwrap_err(),
+        check_store(&[1, 0, 2, 256]).unwrap_err(),
+        of_another_top.unwrap_err(),
     ];
     let lines = refusals.map(|refusal| refusal.to_string());
     assert_eq!(lines[0], "refused 1: the book is shorter than 5 words");
     assert_eq!(lines[1], lines[2]);
-    assert!(lines[1].starts_with("refused 8: "));
+    assert_eq!(
+        lines[1],
+        "refused 8: the count of samples is outside 1..1048576, or the top level outside 0..4"
+    );
     assert!(lines[3].starts_with("refused 15: "));
+    assert_eq!(
+        lines[4],
+        "refused 9: the store is shorter than its header and levels"
+    );
+    assert_eq!(
+        lines[5],
+        "refused 18: a level length in the store's header is not the one that its S and T give"
+    );
+    assert_eq!(
+        lines[6],
+        "refused 19: the voice's top level is not the store's"
+    );
 }

@@ -1,5 +1,5 @@
 //! A studio's program: tests books, asks how long stores are, and builds the
-//! levels of document 01's bench cases, with its book K. It knows no player and
+//! stores of document 01's bench cases, with its book K. It knows no player and
 //! links no more than libtone_builder.a. It prints what its twin in C prints,
 //! `examples/c/studio.txt`.
 
@@ -21,7 +21,7 @@ fn print_length(sample_count: usize, top: u32) {
 }
 
 /// Builds a store of the length that it needs, and prints its words after the
-/// case's letter.
+/// case's letter: S, T, the lengths of the levels, then the levels.
 fn print_store(letter: char, level_tap: i32, samples: &[i16], top: u32) -> Result<(), Refusal> {
     let mut store = vec![0; store_words(samples.len(), top).unwrap_or(0)];
     build(&book_k(level_tap), samples, top, &mut store)?;
@@ -32,12 +32,12 @@ fn print_store(letter: char, level_tap: i32, samples: &[i16], top: u32) -> Resul
 
 /// A store that is one word too short is refused, and no word of it is written.
 fn refusal() {
-    let mut store = [7; 4];
+    let mut store = [7; 8];
     if let Err(refusal) = build(&book_k(16384), &[0, 1000, 2000], 1, &mut store) {
         let (number, meaning) = (refusal.number(), refusal.meaning());
-        println!("B in 4 words: number {number}, {meaning}");
+        println!("B in 8 words: number {number}, {meaning}");
     }
-    let kept = if store == [7; 4] {
+    let kept = if store == [7; 8] {
         "as it was"
     } else {
         "changed"

@@ -2,35 +2,35 @@
 //! studio built, as constants. It knows no level builder and links no more than
 //! libtone.a. It prints what its twin in C prints, `examples/c/unit.txt`.
 
-use tone::{Refusal, Voice};
+use tone::{top_level, Refusal, Voice};
 
 /// What plays are lent.
 struct Hum {
     book: [i32; 11],
     store: &'static [i32],
-    sample_count: usize,
 }
-
-/// The top level of both stores.
-const TOP: u32 = 1;
 
 /// Case B: book K, and the store of the samples 0, 1000, 2000.
 const B: Hum = Hum {
     book: [2, 1, 0, 0, 1, 0, 16384, 16384, -16384, 16384, 16384],
-    store: &[0, 256000, 512000, 0, 512000],
-    sample_count: 3,
+    store: &[3, 1, 3, 2, 0, 256000, 512000, 0, 512000],
 };
 
 /// Case C: book K with a fade of 4 points, and the store of 0, 1000, 0, 1000.
 const C: Hum = Hum {
     book: [2, 1, 0, 0, 4, 0, 16384, 16384, -16384, 16384, 16384],
-    store: &[0, 256000, 0, 256000, 0, 0],
-    sample_count: 4,
+    store: &[4, 1, 4, 2, 0, 256000, 0, 256000, 0, 0],
 };
 
 impl Hum {
+    /// Opens a voice for the store. T stands in the store, which is tested
+    /// first.
+    fn open(&self, rate: f32) -> Result<Voice, Refusal> {
+        Voice::open(rate, top_level(self.store)?)
+    }
+
     fn play(&self, voice: &mut Voice, out: &mut [i16]) -> Result<(), Refusal> {
-        voice.play(&self.book, self.store, self.sample_count, out)
+        voice.play(&self.book, self.store, out)
     }
 }
 
@@ -54,13 +54,13 @@ fn print_played(
 
 /// However a drive is cut into plays, its samples are the same.
 fn case_b() -> Result<(), Refusal> {
-    print_played('B', &mut Voice::open(2.0, TOP)?, &B, 3, 3)?;
-    print_played('B', &mut Voice::open(2.0, TOP)?, &B, 3, 1)
+    print_played('B', &mut B.open(2.0)?, &B, 3, 3)?;
+    print_played('B', &mut B.open(2.0)?, &B, 3, 1)
 }
 
 /// The jump crosses an octave: a fade of 4 points leads to level 1.
 fn case_c() -> Result<(), Refusal> {
-    let mut voice = Voice::open(1.0, TOP)?;
+    let mut voice = C.open(1.0)?;
     voice.jump(2.0)?;
     print_played('C', &mut voice, &C, 2, 2)?;
     println!("level {} is then current", voice.words()[1]);
@@ -69,7 +69,7 @@ fn case_c() -> Result<(), Refusal> {
 
 /// A damaged voice is refused by its number, and nothing is written.
 fn refusal() -> Result<(), Refusal> {
-    let mut words = *Voice::open(1.0, TOP)?.words();
+    let mut words = *B.open(1.0)?.words();
     words[13] = -1; // the high word of P
     let mut out = [77; 2];
     if let Err(refusal) = B.play(&mut Voice::from_words(words), &mut out) {

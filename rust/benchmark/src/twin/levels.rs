@@ -3,31 +3,47 @@
 use super::book::Book;
 use super::halving::{Taps, MOST_REACH};
 
-/// The words of a store for S samples and top level T; 0 where one of them is
-/// outside its range.
+/// The words of a store for S samples and top level T, its header among them; 0
+/// where one of them is outside its range.
 pub fn store_words(sample_count: usize, top: u32) -> usize {
     if !(1..=1_048_576).contains(&sample_count) || top > 4 {
         return 0;
     }
-    (0..=top)
-        .map(|level| level_length(sample_count, level))
-        .sum()
+    let levels: usize = lengths(sample_count, top).sum();
+    header_words(top) + levels
 }
 
-/// Halved `level` times, rounded up each time.
-fn level_length(sample_count: usize, level: u32) -> usize {
-    (sample_count + (1 << level) - 1) >> level
+/// Words of a header: S, T and the T+1 lengths.
+fn header_words(top: u32) -> usize {
+    top as usize + 3
+}
+
+/// The lengths of the levels 0..T: S, halved once more for each, rounded up.
+fn lengths(sample_count: usize, top: u32) -> impl Iterator<Item = usize> {
+    (0..=top).map(move |level| (sample_count + (1 << level) - 1) >> level)
+}
+
+/// 0 for a store that play takes, else the first of the numbers 9, 8, 9 and 18.
+pub fn check_store(store: &[i32]) -> u32 {
+    Levels::accepted(store).err().unwrap_or(0)
 }
 
 /// The levels of a store.
 #[derive(Clone, Copy)]
 pub(super) struct Levels<'a> {
+    /// T
+    pub top: u32,
     words: [&'a [i32]; 5],
 }
 
 impl<'a> Levels<'a> {
-    /// Numbers 8 and 9.
-    pub fn accepted(store: &'a [i32], sample_count: usize, top: u32) -> Result<Levels<'a>, u32> {
+    /// The levels, or the first of the numbers 9, 8, 9 and 18.
+    pub fn accepted(store: &'a [i32]) -> Result<Levels<'a>, u32> {
+        let &[sample_count, top, ..] = store else {
+            return Err(9);
+        };
+        // A word below 0 is beyond every limit as an unsigned one.
+        let (sample_count, top) = (sample_count as u32 as usize, top as u32);
         let needed = store_words(sample_count, top);
         if needed == 0 {
             return Err(8);
@@ -35,12 +51,16 @@ impl<'a> Levels<'a> {
         if store.len() < needed {
             return Err(9);
         }
+        let (header, mut rest) = store.split_at(header_words(top));
         let mut words: [&[i32]; 5] = [&[]; 5];
-        let mut rest = store;
-        for (level, words) in words.iter_mut().enumerate().take(top as usize + 1) {
-            (*words, rest) = rest.split_at(level_length(sample_count, level as u32));
+        let levels = words.iter_mut().zip(&header[2..]);
+        for ((words, written), length) in levels.zip(lengths(sample_count, top)) {
+            if *written != length as i32 {
+                return Err(18);
+            }
+            (*words, rest) = rest.split_at(length);
         }
-        Ok(Levels { words })
+        Ok(Levels { top, words })
     }
 
     /// The words of a level of at most T.
@@ -62,7 +82,9 @@ pub fn build(book: &[i32], samples: &[i16], top: u32, store: &mut [i32]) -> u32 
     if store.len() < needed {
         return 9;
     }
-    let (mut below, mut rest) = store.split_at_mut(samples.len());
+    let (header, levels) = store.split_at_mut(header_words(top));
+    write_header(header, samples.len(), top);
+    let (mut below, mut rest) = levels.split_at_mut(samples.len());
     for (word, sample) in below.iter_mut().zip(samples) {
         *word = i32::from(*sample) * 256;
     }
@@ -73,6 +95,15 @@ pub fn build(book: &[i32], samples: &[i16], top: u32, store: &mut [i32]) -> u32 
         (below, rest) = (next, after);
     }
     0
+}
+
+/// S, T and the lengths of the levels.
+fn write_header(header: &mut [i32], sample_count: usize, top: u32) {
+    header[0] = sample_count as i32;
+    header[1] = top as i32;
+    for (word, length) in header[2..].iter_mut().zip(lengths(sample_count, top)) {
+        *word = length as i32;
+    }
 }
 
 /// Words of the level above that are made at a time.

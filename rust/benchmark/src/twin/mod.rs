@@ -19,5 +19,5 @@ mod values;
 mod voice;
 
 pub use book::check;
-pub use levels::{build, store_words};
+pub use levels::{build, check_store, store_words};
 pub use voice::{Voice, VOICE_WORDS};

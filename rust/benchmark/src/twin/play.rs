@@ -8,23 +8,18 @@ use super::values::Phases;
 use super::voice::{Voice, POINTS};
 
 impl Voice {
-    /// Fills `out`, or gives the first of the numbers 1 to 9, 13 to 17 and 11.
-    pub fn play(
-        &mut self,
-        book: &[i32],
-        store: &[i32],
-        sample_count: usize,
-        out: &mut [i16],
-    ) -> u32 {
+    /// Fills `out`, or gives the first of the numbers 1 to 7, 9, 8, 9, 18, 13, 19,
+    /// 14 to 17 and 11.
+    pub fn play(&mut self, book: &[i32], store: &[i32], out: &mut [i16]) -> u32 {
         let book = match Book::accepted(book) {
             Ok(book) => book,
             Err(number) => return number,
         };
-        let levels = match Levels::accepted(store, sample_count, self.top) {
+        let levels = match Levels::accepted(store) {
             Ok(levels) => levels,
             Err(number) => return number,
         };
-        let number = self.play_number(book.fade);
+        let number = self.play_number(book.fade, levels.top);
         if number != 0 {
             return number;
         }

@@ -1,4 +1,4 @@
-//! The record of a voice, its numbers 13 to 17, and open, orders and seek.
+//! The record of a voice, its numbers 13 to 17 and 19, and open, orders and seek.
 
 /// Words of a voice's plain form.
 pub const VOICE_WORDS: usize = 95;
@@ -137,10 +137,12 @@ impl Voice {
         }
     }
 
-    /// 13 to 17, with the book's F.
-    pub(super) fn play_number(&self, fade: u32) -> u32 {
+    /// 13, 19 and 14 to 17, with the book's F and the store's T.
+    pub(super) fn play_number(&self, fade: u32, top: u32) -> u32 {
         if self.levels_wrong() {
             13
+        } else if self.top != top {
+            19
         } else if self.fade_wrong(fade) {
             14
         } else {

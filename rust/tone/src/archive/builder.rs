@@ -25,8 +25,8 @@ pub fn check(book: &[i32]) -> u32 {
     unsafe { symbols::tone_check(book.as_ptr(), book.len()) }
 }
 
-/// Words of a store for S samples and top level T; 0 where S or T is outside
-/// its range.
+/// Words of a store for S samples and top level T, its header among them; 0
+/// where S or T is outside its range.
 pub fn store_words(sample_count: usize, top: u32) -> usize {
     symbols::tone_store_words(sample_count, top)
 }

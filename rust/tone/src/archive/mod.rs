@@ -1,6 +1,7 @@
 //! The archives' own calls: slices and numbers, nothing else.
 //!
-//! Each function returns the number of document 01 that refused the call, or 0.
+//! Each function returns the number of documents 01 and 02 that refused the call,
+//! or 0, in the order that stands beside it.
 //! [`VOICE_LENGTH`](crate::VOICE_LENGTH) is returned, before every other number,
 //! where a voice slice is not `VOICE_WORDS` long. A refusal writes nothing, but
 //! that a refused `open` writes the zero record, unless its slice has the wrong
@@ -20,4 +21,4 @@ mod player;
 #[cfg(feature = "builder")]
 pub use builder::{build, check, store_words};
 #[cfg(feature = "player")]
-pub use player::{glide, jump, open, play, seek};
+pub use player::{check_store, glide, jump, open, play, seek};

@@ -2,6 +2,8 @@
 
 mod symbols {
     unsafe extern "C" {
+        pub fn tone_check_store(store: *const i32, store_words: usize) -> u32;
+
         pub fn tone_open(rate: f32, top: u32, voice: *mut i32, voice_words: usize) -> u32;
 
         pub fn tone_jump(voice: *mut i32, voice_words: usize, rate: f32) -> u32;
@@ -17,11 +19,16 @@ mod symbols {
             book_words: usize,
             store: *const i32,
             store_words: usize,
-            sample_count: usize,
             out: *mut i16,
             out_count: usize,
         ) -> u32;
     }
+}
+
+/// The check of a store: 9, 8, 9, 18.
+pub fn check_store(store: &[i32]) -> u32 {
+    // SAFETY: `store` is a valid slice, only read.
+    unsafe { symbols::tone_check_store(store.as_ptr(), store.len()) }
 }
 
 /// Opening: 8 for T, 10.
@@ -52,14 +59,8 @@ pub fn seek(voice: &mut [i32], position: u64) -> u32 {
     unsafe { symbols::tone_seek(voice.as_mut_ptr(), voice.len(), position) }
 }
 
-/// Play: 1 to 9, 13 to 17, 11.
-pub fn play(
-    voice: &mut [i32],
-    book: &[i32],
-    store: &[i32],
-    sample_count: usize,
-    out: &mut [i16],
-) -> u32 {
+/// Play: 1 to 7, the numbers of [`check_store`], 13, 19, 14 to 17, 11.
+pub fn play(voice: &mut [i32], book: &[i32], store: &[i32], out: &mut [i16]) -> u32 {
     // SAFETY: `book` and `store` are valid slices, only read; `voice` and `out`
     // are valid slices whose exclusive borrows overlap neither each other nor
     // `book` and `store`. Words of all four may be anything.
@@ -71,7 +72,6 @@ pub fn play(
             book.len(),
             store.as_ptr(),
             store.len(),
-            sample_count,
             out.as_mut_ptr(),
             out.len(),
         )

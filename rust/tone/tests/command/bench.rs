@@ -210,8 +210,6 @@ pub struct Stage {
     pub folder: Folder,
     pub book: Vec<i32>,
     pub store: Vec<i32>,
-    pub sample_count: usize,
-    pub top: u32,
 }
 
 impl Stage {
@@ -224,8 +222,6 @@ impl Stage {
             folder,
             book: book.to_vec(),
             store,
-            sample_count: samples.len(),
-            top,
         }
     }
 
@@ -234,36 +230,22 @@ impl Stage {
         Stage::new(&K, &[0, 1000, 2000], 1)
     }
 
-    pub fn play_with(&self, sample_count: &str, top: &str, rate: &str, drive: &str) -> Output {
+    pub fn play(&self, rate: &str, drive: &str) -> Output {
         let drive = self.folder.write("drive.txt", drive);
         let (book, store) = (self.folder.path("book.txt"), self.folder.path("hum.store"));
-        run!(
-            "play",
-            book,
-            store,
-            sample_count,
-            top,
-            "--",
-            rate,
-            drive,
-            self.folder.path("out.wav")
-        )
+        let out = self.folder.path("out.wav");
+        run!("play", book, store, "--", rate, drive, out)
     }
 
-    pub fn play(&self, rate: &str, drive: &str) -> Output {
-        self.play_with(
-            &self.sample_count.to_string(),
-            &self.top.to_string(),
-            rate,
-            drive,
-        )
+    /// Plays with another store in the file.
+    pub fn play_store(&self, store: &[i32], rate: &str, drive: &str) -> Output {
+        self.folder.write("hum.store", bytes_of(store));
+        self.play(rate, drive)
     }
 
     pub fn perform(&self, voice: &mut Voice, count: usize) -> Vec<i16> {
         let mut out = vec![0; count];
-        voice
-            .play(&self.book, &self.store, self.sample_count, &mut out)
-            .unwrap();
+        voice.play(&self.book, &self.store, &mut out).unwrap();
         out
     }
 
@@ -274,6 +256,23 @@ impl Stage {
     /// The place of a drive's line in a message.
     pub fn line(&self, number: usize) -> String {
         format!("{}:{number}", self.folder.path("drive.txt").display())
+    }
+
+    /// The store was refused: status 1, its number with its meaning, a line that
+    /// says what to do, and no output.
+    #[track_caller]
+    pub fn refused_store(&self, output: &Output, refusal: Refusal) {
+        let path = self.folder.path("hum.store");
+        let path = path.display();
+        let lines = format!(
+            "tone: {path}: {refusal}\n\
+             tone: a store begins with S, T and its level lengths, and has its levels whole: \
+             build {path} again with `tone build`\n"
+        );
+        assert_eq!(error_text(output), lines);
+        assert_eq!(output.stdout, b"");
+        assert_eq!(output.status.code(), Some(1));
+        self.left_nothing();
     }
 
     /// No output, and nothing under a temporary name.

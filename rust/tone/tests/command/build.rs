@@ -22,6 +22,9 @@ fn build_writes_the_library_s_store() {
             format!("S 5001, T {top}: {} words\n", expected.len())
         );
         assert_eq!(words_of(&fs::read(&store).unwrap()), expected);
+        let header = [5001, top as i32, 5001, 2501, 1251, 626, 313];
+        assert_eq!(expected[..3 + top as usize], header[..3 + top as usize]);
+        assert_eq!(tone::top_level(&expected), Ok(top));
     }
     assert_eq!(folder.names(), ["book.txt", "hum.store", "hum.wav"]);
 }
@@ -43,7 +46,7 @@ fn build_takes_the_most_samples_and_no_more() {
     let longest = folder.recording(samples);
     assert_eq!(
         accepted(&run!("build", book, longest, "4", store)),
-        "S 1048576, T 4: 2031616 words\n"
+        "S 1048576, T 4: 2031623 words\n"
     );
     assert_eq!(
         words_of(&fs::read(&store).unwrap()),
@@ -89,7 +92,8 @@ fn a_refused_build_keeps_the_old_store() {
     );
     assert_eq!(fs::read(&store).unwrap(), b"an older store");
     accepted(&run!("build", book, recording, "0", store));
-    assert_eq!(words_of(&fs::read(&store).unwrap()), [256, 512, 768]);
+    let words = [3, 0, 3, 256, 512, 768];
+    assert_eq!(words_of(&fs::read(&store).unwrap()), words);
     assert_eq!(folder.names(), ["book.txt", "hum.store", "hum.wav"]);
 }
 
@@ -141,5 +145,6 @@ fn recordings_with_other_chunks() {
     let recording = folder.write("hum.wav", bytes);
     let store = folder.path("hum.store");
     accepted(&run!("build", folder.book(&K), recording, "0", store));
-    assert_eq!(words_of(&fs::read(&store).unwrap()), [256, -512, 768]);
+    let words = [3, 0, 3, 256, -512, 768];
+    assert_eq!(words_of(&fs::read(&store).unwrap()), words);
 }

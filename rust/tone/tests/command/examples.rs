@@ -39,7 +39,7 @@ fn the_example_book_keeps_a_steady_level() {
         let mut voice = Voice::open(rate, 4).unwrap();
         voice.seek(5000 << 28).unwrap();
         let mut out = [0; 200];
-        voice.play(&book, &store, 20000, &mut out).unwrap();
+        voice.play(&book, &store, &mut out).unwrap();
         assert!(out[50..].iter().all(|sample| *sample == 12345), "{rate}");
     }
 }
@@ -78,8 +78,8 @@ fn the_example_flow() {
     let (book, drive) = (examples.join("book/book.txt"), examples.join("drive.txt"));
     assert_eq!(accepted(&run!("check", book)), "accepted\n");
     let built = run!("build", book, hum, "2", store);
-    assert_eq!(accepted(&built), "S 96000, T 2: 168000 words\n");
-    let played = run!("play", book, store, "96000", "2", "1", drive, out);
+    assert_eq!(accepted(&built), "S 96000, T 2: 168005 words\n");
+    let played = run!("play", book, store, "1", drive, out);
     assert_eq!(accepted(&played), "100000 outputs\n");
     let bytes = fs::read(&out).unwrap();
     assert_eq!(bytes.len(), 44 + 2 * 100_000);

@@ -22,7 +22,7 @@ fn an_input_is_not_overwritten() {
         .join(folder.path.file_name().unwrap())
         .join("drive.txt");
     for out in [&book, &store, &drive, &roundabout] {
-        let output = run!("play", book, store, "3", "1", "1", drive, out);
+        let output = run!("play", book, store, "1", drive, out);
         unusable(&output, &["one of the inputs"]);
     }
     let recording = folder.recording(&[1, 2, 3]);
@@ -86,7 +86,8 @@ fn links_and_special_files() {
     std::os::unix::fs::symlink(&store, &link).unwrap();
     accepted(&run!("build", book, recording, "0", link));
     assert!(link.is_symlink());
-    assert_eq!(words_of(&fs::read(&store).unwrap()), [256, 512, 768]);
+    let words = [3, 0, 3, 256, 512, 768];
+    assert_eq!(words_of(&fs::read(&store).unwrap()), words);
 }
 
 /// A signal in the middle of a long drive: the temporary file goes.
@@ -99,7 +100,7 @@ fn an_interrupted_play_leaves_nothing() {
     let child = Command::new(env!("CARGO_BIN_EXE_tone"))
         .arg("play")
         .args([folder.path("book.txt"), folder.path("hum.store")])
-        .args(["3", "1", "1"])
+        .arg("1")
         .args([drive, folder.path("out.wav")])
         .stderr(Stdio::piped())
         .spawn()
@@ -143,10 +144,9 @@ fn progress_is_for_terminals() {
     );
     let command = env!("CARGO_BIN_EXE_tone");
     let arguments = ["-c", ON_A_TERMINAL, command, "play"].map(OsStr::new);
-    let files = [OsStr::new(&book), OsStr::new(&store)];
-    let numbers = ["3", "1", "1"].map(OsStr::new);
-    let rest = [OsStr::new(&drive), OsStr::new(&out)];
-    let Some(shown) = python(&[&arguments[..], &files, &numbers, &rest].concat()) else {
+    let operands = [&book, &store].map(OsStr::new);
+    let rest = [OsStr::new("1"), OsStr::new(&drive), OsStr::new(&out)];
+    let Some(shown) = python(&[&arguments[..], &operands, &rest].concat()) else {
         return;
     };
     let text = accepted(&shown);

@@ -6,7 +6,7 @@ use std::fs;
 use tone::{Refusal, Voice};
 
 use crate::bench::{
-    accepted, bad_books, bytes_of, example_book, pattern, refused, run, unusable, wav_of, Stage, K,
+    accepted, bad_books, example_book, pattern, refused, run, store_of, unusable, wav_of, Stage, K,
 };
 
 #[test]
@@ -54,7 +54,7 @@ fn sample_rate_is_written() {
         let mut arguments = vec![OsStr::new("play")];
         arguments.extend(option.iter().map(OsStr::new));
         arguments.extend([book, store].map(|path| path.as_os_str()));
-        arguments.extend(["3", "1", "1.0"].map(OsStr::new));
+        arguments.push(OsStr::new("1.0"));
         arguments.extend([&drive, &out].map(|path| path.as_os_str()));
         assert_eq!(accepted(&run(&arguments)), "2 outputs\n");
         assert_eq!(stage.out(), wav_of(44100, &[500, 1500]));
@@ -75,9 +75,20 @@ fn a_drive_without_plays_writes_an_empty_file() {
 fn a_store_may_have_words_after_its_levels() {
     let stage = Stage::small();
     let words = [&stage.store[..], &[i32::MAX; 3]].concat();
-    stage.folder.write("hum.store", bytes_of(&words));
-    accepted(&stage.play("1", "play 3"));
+    accepted(&stage.play_store(&words, "1", "play 3"));
     assert_eq!(stage.out(), wav_of(48000, &[500, 1500, 1000]));
+}
+
+/// A file is read as far as the largest store goes, its header among its words.
+#[test]
+fn the_largest_store_is_read_whole() {
+    let stage = Stage::new(&K, &vec![1000; tone::MOST_SAMPLES], tone::MOST_TOP);
+    let words = [&stage.store[..], &[i32::MIN; 9]].concat();
+    let end = format!("seek {}\nplay 2", (tone::MOST_SAMPLES - 1) << 28);
+    accepted(&stage.play_store(&words, "16", &end));
+    let mut voice = Voice::open(16.0, tone::MOST_TOP).unwrap();
+    voice.seek(((tone::MOST_SAMPLES - 1) as u64) << 28).unwrap();
+    assert_eq!(stage.out(), wav_of(48000, &stage.perform(&mut voice, 2)));
 }
 
 #[test]
@@ -93,7 +104,7 @@ fn the_longest_play_and_one_more() {
 
     let mut out = vec![0; 1_048_577];
     let mut voice = Voice::open(1.0, 1).unwrap();
-    let eleven = voice.play(&K, &stage.store, 3, &mut out).unwrap_err();
+    let eleven = voice.play(&K, &stage.store, &mut out).unwrap_err();
     assert_eq!(eleven.number(), 11);
     for count in [
         "1048577",
@@ -141,56 +152,104 @@ fn refused_lines_are_named() {
 #[test]
 fn openings_that_are_refused() {
     let stage = Stage::small();
-    let refused_open = |rate: f32, top: u32| Voice::open(rate, top).unwrap_err();
-    refused(
-        &stage.play_with("3", "5", "1", "play 1"),
-        "opening",
-        refused_open(1.0, 5),
-    );
-    refused(
-        &stage.play_with("3", "99999999999", "1", "play 1"),
-        "opening",
-        refused_open(1.0, 5),
-    );
     for rate in ["4", "0.06", "-1", "0"] {
-        let refusal = refused_open(rate.parse().unwrap(), 1);
+        let refusal = Voice::open(rate.parse().unwrap(), 1).unwrap_err();
         assert_eq!(refusal.number(), 10);
         refused(&stage.play(rate, "play 1"), "opening", refusal);
     }
     stage.left_nothing();
 }
 
+/// T is the store's, and rates go up to below 2^(T+1).
 #[test]
-fn books_and_stores_that_play_refuses() {
-    let stage = Stage::small();
-    let refusal_for = |book: &[i32], store: &[i32], samples: usize| {
-        let mut voice = Voice::open(1.0, 1).unwrap();
-        voice.play(book, store, samples, &mut []).unwrap_err()
-    };
-    // no play in the drive: they are tested all the same
-    for samples in [0, 1_048_577, usize::MAX] {
-        let eight = refusal_for(&K, &stage.store, samples);
-        assert_eq!(eight.number(), 8);
-        refused(
-            &stage.play_with(&samples.to_string(), "1", "1", "jump 2"),
-            "opening",
-            eight,
-        );
+fn the_store_s_top_level_sets_the_highest_rate() {
+    for (top, below, end) in [
+        (0, "1.9999999", "2"),
+        (2, "7.9999995", "8"),
+        (4, "31.999998", "32"),
+    ] {
+        let stage = Stage::new(&K, &[0, 1000, 2000], top);
+        accepted(&stage.play(below, "play 3"));
+        fs::remove_file(stage.folder.path("out.wav")).unwrap();
+        let ten = Voice::open(end.parse().unwrap(), top).unwrap_err();
+        assert_eq!(ten.number(), 10);
+        refused(&stage.play(end, "play 3"), "opening", ten);
+        stage.left_nothing();
     }
-    let nine = refusal_for(&K, &stage.store, 4);
-    assert_eq!(nine.number(), 9);
-    refused(&stage.play_with("4", "1", "1", "play 1"), "opening", nine);
-    stage.folder.write("hum.store", bytes_of(&stage.store[..4]));
-    refused(&stage.play("1", "play 1"), "opening", nine);
+}
+
+#[test]
+fn books_that_play_refuses() {
+    let stage = Stage::small();
     for words in bad_books() {
         stage.folder.book(&words);
-        refused(
-            &stage.play("1", "play 1"),
-            "opening",
-            tone::check(&words).unwrap_err(),
-        );
+        let refusal = tone::check(&words).unwrap_err();
+        // no play in the drive: it is tested all the same
+        for drive in ["play 1", "jump 2"] {
+            refused(&stage.play("1", drive), "opening", refusal);
+        }
     }
     stage.left_nothing();
+}
+
+/// Plays a store that is refused by this number, with a play in the drive and
+/// with none, and a rate that no store takes.
+#[track_caller]
+fn refuses_store(stage: &Stage, store: &[i32], number: u32) {
+    let refusal = tone::check_store(store).unwrap_err();
+    assert_eq!(refusal.number(), number);
+    for (rate, drive) in [("1", "play 1"), ("1", "jump 2"), ("100", "play 1")] {
+        stage.refused_store(&stage.play_store(store, rate, drive), refusal);
+    }
+}
+
+#[test]
+fn headers_that_play_refuses() {
+    let stage = Stage::small();
+    let changed = |at: usize, word: i32| {
+        let mut store = stage.store.clone();
+        store[at] = word;
+        store
+    };
+    for sample_count in [0, -3, 1_048_577] {
+        refuses_store(&stage, &changed(0, sample_count), 8);
+    }
+    for top in [-1, 5] {
+        refuses_store(&stage, &changed(1, top), 8);
+    }
+    for (at, length) in [(2, 2), (2, 4), (3, 1), (3, 3)] {
+        refuses_store(&stage, &changed(at, length), 18);
+    }
+    // the store is tested before the book, since opening needs its T
+    stage.folder.book(&K[..4]);
+    refuses_store(&stage, &changed(2, 4), 18);
+}
+
+#[test]
+fn stores_that_were_cut_off() {
+    let stage = Stage::small();
+    for length in 0..stage.store.len() {
+        refuses_store(&stage, &stage.store[..length], 9);
+    }
+}
+
+/// Stores were once the levels alone.
+#[test]
+fn stores_without_a_header() {
+    let stage = Stage::small();
+    refuses_store(&stage, &stage.store[4..], 8);
+    let levels_of = |samples: &[i16]| store_of(&K, samples, 0)[3..].to_vec();
+    // 4 x 256 and 0 pass for S and T
+    let quiet = |count: usize| [&[4, 0][..], &vec![5; count]].concat();
+    refuses_store(&stage, &levels_of(&quiet(1000)), 9);
+    refuses_store(&stage, &levels_of(&quiet(2000)), 18);
+    // built again, it plays
+    let recording = stage.folder.recording(&[0, 1000, 2000]);
+    let store = stage.folder.path("hum.store");
+    let book = stage.folder.path("book.txt");
+    accepted(&run!("build", book, recording, "1", store));
+    accepted(&stage.play("1", "play 3"));
+    assert_eq!(stage.out(), wav_of(48000, &[500, 1500, 1000]));
 }
 
 #[test]

@@ -8,8 +8,8 @@ fn help_and_version() {
         let help = accepted(&run!(option));
         for part in [
             "tone check BOOK",
-            "tone build",
-            "tone play",
+            "tone build BOOK RECORDING.wav T STORE\n",
+            "tone play BOOK STORE RATE DRIVE OUT.wav\n",
             "--sample-rate",
             "Exit status",
         ] {
@@ -28,13 +28,17 @@ fn help_and_version() {
 fn wrong_usage() {
     unusable(&run!(), &["no command", "--help"]);
     unusable(&run!("tune"), &["no command tune"]);
-    unusable(&run!("check"), &["wrong count", "check"]);
-    unusable(&run!("check", "a", "b"), &["wrong count", "check"]);
-    unusable(&run!("build", "a", "b", "1"), &["wrong count", "build"]);
+    let check = ["wrong count", "usage is tone check BOOK: see tone --help"];
+    unusable(&run!("check"), &check);
+    unusable(&run!("check", "a", "b"), &check);
     unusable(
-        &run!("play", "a", "b", "3", "1", "1", "d"),
-        &["wrong count", "play"],
+        &run!("build", "a", "b", "1"),
+        &["wrong count", "tone build BOOK RECORDING.wav T STORE:"],
     );
+    let play = ["wrong count", "tone play BOOK STORE RATE DRIVE OUT.wav:"];
+    unusable(&run!("play", "a", "b", "1", "d"), &play);
+    // S and T are in the store, and no arguments
+    unusable(&run!("play", "a", "b", "3", "1", "1", "d", "o"), &play);
     unusable(&run!("check", "--fast", "a"), &["no option --fast"]);
     unusable(&run!("check", "--sample-rate", "8000", "a"), &["tone play"]);
     unusable(
@@ -49,28 +53,17 @@ fn wrong_usage() {
 
 #[test]
 fn wrong_numbers_for_play() {
-    let play = |samples: &str, rate: &str, hertz: &str| {
-        run!(
-            "play",
-            "--sample-rate",
-            hertz,
-            "a",
-            "b",
-            samples,
-            "1",
-            rate,
-            "d",
-            "o"
-        )
-    };
-    unusable(&play("3.5", "1", "8000"), &["S", "\"3.5\"", "whole number"]);
+    let play =
+        |rate: &str, hertz: &str| run!("play", "--sample-rate", hertz, "a", "b", rate, "d", "o");
     for rate in ["nan", "inf", "1e1", "", "one"] {
-        unusable(&play("3", rate, "8000"), &["RATE", "not a decimal"]);
+        unusable(&play(rate, "8000"), &["RATE", "not a decimal"]);
     }
     for hertz in ["0", "2147483648", "99999999999999999999"] {
-        unusable(&play("3", "1", hertz), &["--sample-rate", "outside"]);
+        unusable(&play("1", hertz), &["--sample-rate", "outside"]);
     }
-    unusable(&play("3", "1", "fast"), &["--sample-rate", "whole number"]);
+    for hertz in ["fast", "3.5"] {
+        unusable(&play("1", hertz), &["--sample-rate", "whole number"]);
+    }
     unusable(
         &run!("play", "--sample-rate"),
         &["--sample-rate takes a number"],

@@ -14,28 +14,29 @@ tone: the driving-tone player, for studios and fitters
         Tests a filter book. Prints \"accepted\", or why it is refused.
 
     tone build BOOK RECORDING.wav T STORE
-        Builds the octave levels 0..T of a recording, and prints its count of
-        samples S, which play is told.
+        Builds the store of a recording with its octave levels 0..T, and prints
+        its count of samples S, T and the store's length.
 
-    tone play BOOK STORE S T RATE DRIVE OUT.wav
-        Opens a voice at RATE and T, makes the calls of DRIVE in their order and
-        writes all samples that they play. S and T are those that STORE was
-        built with.
+    tone play BOOK STORE RATE DRIVE OUT.wav
+        Opens a voice at RATE for STORE, which names its S and T, makes the calls
+        of DRIVE in their order and writes all samples that they play.
         --sample-rate HZ   written to OUT.wav, which plays at the recorded
                            pitch for rate 1 if the recording had the same;
                            48000 if not given
 
     tone --help, tone --version
 
-T is 0..4, S is 1..1048576, and RATE is a decimal from 1/16 up to below 2^(T+1);
-it is rounded to the nearest 32-bit float, which is the rate that is played.
+T is 0..4, S is 1..1048576, and RATE is a decimal from 1/16 up to below 2^(T+1),
+T being STORE's; it is rounded to the nearest 32-bit float, which is the rate
+that is played.
 
 BOOK           a text of decimal words, blanks or line ends between them: N, M,
                A, B, F, the impulses, the differences, the level taps and the
                decimation taps. Lines that begin with # are comments.
 RECORDING.wav  a 16-bit mono PCM WAV file.
-STORE          32-bit words in two's complement, lowest byte first: the levels
-               one after another. Words after the levels are not looked at.
+STORE          32-bit words in two's complement, lowest byte first: S, T, the
+               lengths of the levels 0..T, then these levels one after another.
+               Words after the levels are not looked at.
 DRIVE          a text with a call on each line:
                    jump RATE            to a rate at once
                    glide RATE OUTPUTS   to a rate over 1..65536 outputs
@@ -45,7 +46,8 @@ DRIVE          a text with a call on each line:
 OUT.wav        a 16-bit mono PCM WAV file.
 
 A refused call ends the command: its number and meaning, and the line of DRIVE,
-are written to standard error. STORE and OUT.wav are written whole or not at all.
+are written to standard error; with a refused STORE, that it is to be built again.
+STORE and OUT.wav are written whole or not at all.
 
 Exit status: 0 done, 1 refused, 2 arguments or files that cannot be used,
 130 interrupted.
@@ -89,17 +91,13 @@ pub struct BuildRequest {
     pub store: PathBuf,
 }
 
-/// `tone play BOOK STORE S T RATE DRIVE OUT.wav`
+/// `tone play BOOK STORE RATE DRIVE OUT.wav`
 #[derive(Debug)]
 pub struct PlayRequest {
     /// BOOK
     pub book: PathBuf,
     /// STORE
     pub store: PathBuf,
-    /// S
-    pub sample_count: usize,
-    /// T
-    pub top: u32,
     /// RATE
     pub rate: f32,
     /// DRIVE
@@ -142,21 +140,18 @@ pub fn read(arguments: impl Iterator<Item = OsString>) -> Result<Request, Failur
             top: top_level(top)?,
             store: store.into(),
         })),
-        (Some("play"), [book, store, samples, top, rate, drive, out]) => {
-            Ok(Request::Play(PlayRequest {
-                book: book.into(),
-                store: store.into(),
-                sample_count: sample_count(samples)?,
-                top: top_level(top)?,
-                rate: opening_rate(rate)?,
-                drive: drive.into(),
-                out: out.into(),
-                sample_rate: given.sample_rate.unwrap_or(SAMPLE_RATE),
-            }))
-        }
-        (Some(name @ ("check" | "build" | "play")), _) => {
-            Err(misused(&format!("wrong count of arguments for {name}")))
-        }
+        (Some("play"), [book, store, rate, drive, out]) => Ok(Request::Play(PlayRequest {
+            book: book.into(),
+            store: store.into(),
+            rate: opening_rate(rate)?,
+            drive: drive.into(),
+            out: out.into(),
+            sample_rate: given.sample_rate.unwrap_or(SAMPLE_RATE),
+        })),
+        (Some(name @ ("check" | "build" | "play")), _) => Err(misused(&format!(
+            "wrong count of arguments, usage is {}",
+            usage(name)
+        ))),
         _ => Err(misused(&format!("no command {}", command.display()))),
     }
 }
@@ -186,6 +181,13 @@ fn sorted(mut arguments: impl Iterator<Item = OsString>) -> Result<Given, Failur
     Ok(given)
 }
 
+/// The line of the help text that has a command's arguments.
+fn usage(command: &str) -> &'static str {
+    let begins = |line: &&str| line.split(' ').take(2).eq(["tone", command]);
+    let mut lines = HELP.lines().map(str::trim_start);
+    lines.find(begins).unwrap_or_default()
+}
+
 fn misused(what: &str) -> Failure {
     Failure::unusable(what, "see tone --help")
 }
@@ -199,10 +201,6 @@ fn number(name: &str, text: &OsString) -> Result<u64, Failure> {
 
 fn top_level(text: &OsString) -> Result<u32, Failure> {
     Ok(u32::try_from(number("T", text)?).unwrap_or(u32::MAX))
-}
-
-fn sample_count(text: &OsString) -> Result<usize, Failure> {
-    Ok(usize::try_from(number("S", text)?).unwrap_or(usize::MAX))
 }
 
 fn opening_rate(text: &OsString) -> Result<f32, Failure> {

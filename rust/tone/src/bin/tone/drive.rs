@@ -116,28 +116,27 @@ pub struct Player<'a> {
     voice: Voice,
     book: &'a [i32],
     store: &'a [i32],
-    sample_count: usize,
     out: Vec<i16>,
 }
 
 impl<'a> Player<'a> {
-    /// Opens the voice. Book, store and S are tested here by a play of no
-    /// outputs, which changes nothing, rather than at the first play.
+    /// Opens the voice for the store, which is tested first: T stands in it. The
+    /// book is tested here by a play of no outputs, which changes nothing,
+    /// rather than at the first play.
     pub fn open(
         book: &'a [i32],
         store: &'a [i32],
         request: &PlayRequest,
     ) -> Result<Player<'a>, Failure> {
         let refused = |refusal| Failure::refused("opening", refusal);
-        let mut voice = Voice::open(request.rate, request.top).map_err(refused)?;
-        voice
-            .play(book, store, request.sample_count, &mut [])
-            .map_err(refused)?;
+        let top = tone::top_level(store)
+            .map_err(|refusal| Failure::refused_store(&request.store, refusal))?;
+        let mut voice = Voice::open(request.rate, top).map_err(refused)?;
+        voice.play(book, store, &mut []).map_err(refused)?;
         Ok(Player {
             voice,
             book,
             store,
-            sample_count: request.sample_count,
             // One more than a play may have is enough to have it refused.
             out: vec![0; MOST_OUTPUTS + 1],
         })
@@ -152,8 +151,7 @@ impl<'a> Player<'a> {
             Call::Play(count) => {
                 let count = count.min(self.out.len());
                 let out = &mut self.out[..count];
-                self.voice
-                    .play(self.book, self.store, self.sample_count, out)?;
+                self.voice.play(self.book, self.store, out)?;
                 Ok(out)
             }
         }

@@ -1,6 +1,7 @@
 //! Why a command ended early, and the exit status that says so.
 
 use std::fmt;
+use std::path::{Path, PathBuf};
 
 use tone::Refusal;
 
@@ -19,6 +20,13 @@ pub enum Failure {
         /// Where; none for a check, whose answer is the number alone.
         place: Option<String>,
         /// The call's answer.
+        refusal: Refusal,
+    },
+    /// A store that no voice can be opened for.
+    RefusedStore {
+        /// STORE
+        path: PathBuf,
+        /// Its number.
         refusal: Refusal,
     },
     /// An argument or a file cannot be used.
@@ -40,6 +48,13 @@ impl Failure {
         Failure::Refused { place, refusal }
     }
 
+    /// A refused store. One without a header, as stores once were, is refused for
+    /// whatever stands in its place, so the text also says what to do.
+    pub fn refused_store(path: &Path, refusal: Refusal) -> Failure {
+        let path = path.to_owned();
+        Failure::RefusedStore { path, refusal }
+    }
+
     /// A file or argument, and what is wrong with it.
     pub fn unusable(what: impl fmt::Display, why: impl fmt::Display) -> Failure {
         Failure::Unusable(format!("{what}: {why}"))
@@ -48,7 +63,7 @@ impl Failure {
     /// The exit status.
     pub fn status(&self) -> u8 {
         match self {
-            Failure::Refused { .. } => REFUSED,
+            Failure::Refused { .. } | Failure::RefusedStore { .. } => REFUSED,
             Failure::Unusable(_) => UNUSABLE,
             Failure::Interrupted => INTERRUPTED,
         }
@@ -66,6 +81,15 @@ impl fmt::Display for Failure {
                 place: None,
                 refusal,
             } => write!(f, "{refusal}"),
+            Failure::RefusedStore { path, refusal } => {
+                let path = path.display();
+                writeln!(f, "tone: {path}: {refusal}")?;
+                write!(
+                    f,
+                    "tone: a store begins with S, T and its level lengths, and has its levels whole: \
+                     build {path} again with `tone build`"
+                )
+            }
             Failure::Unusable(text) => write!(f, "tone: {text}"),
             Failure::Interrupted => write!(f, "tone: interrupted"),
         }

@@ -5,7 +5,7 @@
 //! ```text
 //! tone check BOOK
 //! tone build BOOK RECORDING.wav T STORE
-//! tone play BOOK STORE S T RATE DRIVE OUT.wav
+//! tone play BOOK STORE RATE DRIVE OUT.wav
 //! ```
 //!
 //! [`arguments::HELP`] is what `tone --help` prints: the forms of all files and
