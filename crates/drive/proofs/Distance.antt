@@ -14,7 +14,8 @@ use Rattle.arith.specs.Lists.{at, wordAt}
 use Rattle.arith.proofs.Linear.{abs-pos-*}
 use Rattle.book.specs.Book.{sizesOf, levelTaps}
 use Rattle.control.specs.declared.Plan.{Plan}
-use Rattle.values.specs.Values.{unit, limitedWord, storeLevel, valueSum, levelValue, value}
+use Rattle.store.specs.Store.{storeLevel}
+use Rattle.values.specs.Values.{unit, limitedWord, valueSum, levelValue, value}
 use Rattle.points.specs.Points.{point}
 use Rattle.decimation.specs.Decimation.{outputSum}
 use Rattle.drive.specs.Demand.{CloseTo}
