@@ -15,7 +15,7 @@ use Rattle.octave.specs.Octave.{halfLength, nextLevel}
 use Rattle.store.specs.Sizes.{levelLength, levelsBelow}
 use Rattle.levels.specs.Levels.{firstLevel, levelOf, levelsOf}
 use Rattle.octave.proofs.Octave.{length-next, next-bound}
-use Rattle.store.proofs.Lengths.{levelLength-zero, levelsBelow-zero, levelsBelow-more}
+use Rattle.store.proofs.Lengths.{levelsBelow-zero, levelsBelow-more}
 use Rattle.arith.proofs.Parts.{part-middle, overwrite-behind}
 
 -- ---- how long

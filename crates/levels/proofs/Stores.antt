@@ -7,8 +7,8 @@ use Prim.Native.Nat.{ℕ, _+_, _≤_}
 use native.Mathlib.Omega.{arith}
 use lib.IntN.{ℤ, pos}
 use lib.ListN.{length, length-append}
-use Rattle.store.specs.Sizes.{samplesInRange, topInRange, levelsBelow, storeLength}
-use Rattle.store.specs.Store.{headerOf, sampleCount, topLevel, storeLevel}
+use Rattle.store.specs.Sizes.{samplesInRange, topInRange, storeLength}
+use Rattle.store.specs.Store.{headerOf, topLevel, storeLevel}
 use Rattle.store.specs.Check.{storeNumber}
 use Rattle.store.proofs.Lengths.{storeLength-is}
 use Rattle.store.proofs.Headers.{length-header, header-top, header-accepted, behind-header}

@@ -1,6 +1,6 @@
 -- A store that begins with the header for S and T: what it names, that it is accepted, and where its levels lie. Assumes nothing.
 use mathlib.Core.Bool.{true}
-use mathlib.Core.List.{List, _∷_, _++_}
+use mathlib.Core.List.{List, _++_}
 use mathlib.Core.Path.{_≡_, refl, sym, ap, _∙_}
 use Prim.Native.Nat.{ℕ, suc, _+_, _≤_, _<_}
 use native.Mathlib.Omega.{arith}
@@ -8,10 +8,9 @@ use borrow.Author.Tests.{le-ltb}
 use lib.IntN.{ℤ, pos}
 use lib.ListN.{length, take, drop, length-append, List·getD-append}
 use lib.Seq.{drop-append-add}
-use Rattle.arith.specs.Lists.{at, part, tabulate}
-use Rattle.arith.specs.Tests.{eqZ, every}
+use Rattle.arith.specs.Lists.{at, part}
 use Rattle.arith.proofs.Lists.{length-tabulate, getD-tabulate}
-use Rattle.arith.proofs.Tests.{eqZ-yes, every-all, &&-both}
+use Rattle.arith.proofs.Tests.{eqZ-yes, every-all}
 use Rattle.book.specs.Number.{refuse, _otherwise_}
 use Rattle.store.specs.Sizes.{samplesInRange, topInRange, levelLength, levelsBelow, headerLength, levelStart, storeLength}
 use Rattle.store.specs.Store.{headerOf, sampleCount, topLevel, storeLevel}

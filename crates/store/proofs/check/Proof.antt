@@ -1,12 +1,11 @@
 -- `store::check` meets its contract: it makes the tests of 9, 8, 9 and 18 in their order. Assumes nothing.
 use borrow.Author.Needs.{needs}
 use mathlib.Core.Bool.{true, false}
-use mathlib.Core.Path.{_≡_, sym, ap, ap₂, _∙_}
+use mathlib.Core.Path.{_≡_, sym, ap₂, _∙_}
 use mathlib.Core.List.{List}
 use Prim.Native.Nat.{_≤_}
 use native.Mathlib.Omega.{arith}
 use lib.IntN.{ℤ}
-use lib.ListN.{length}
 use Rattle.arith.specs.Lists.{at}
 use Rattle.arith.proofs.Tests.{tests, test-fails, test-holds, within-size}
 use Rattle.book.specs.Number.{refuse, _otherwise_}

@@ -6,7 +6,7 @@ use native.Mathlib.Omega.{arith}
 use borrow.Author.Needs.{needs}
 use Rattle.octave.specs.Octave.{halfLength}
 use Rattle.octave.proofs.Octave.{halfLength-≤}
-use Rattle.store.specs.Sizes.{levelLength, levelsBelow, storeLength}
+use Rattle.store.specs.Sizes.{levelLength, levelsBelow}
 use Rattle.store.proofs.Lengths.{levelLength-zero, levelLength-≤, levelLength-more, levelsBelow-zero, levelsBelow-more, levelsBelow-≤, storeLength-is}
 use Rattle.store.proofs.sizes.store_length.Statement.{statement}
 use Rattle.store.proofs.sizes.store_length.Tie as tie

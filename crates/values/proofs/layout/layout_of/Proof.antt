@@ -1,6 +1,5 @@
 -- `values::layout::layout_of` meets its contract: the sizes are the book's, and the places those that the store's header gives. Assumes nothing.
-use mathlib.Core.Path.{_≡_, ap, ap₂, _∙_}
-use Prim.Native.Nat.{ℕ, _<_}
+use mathlib.Core.Path.{ap, ap₂, _∙_}
 use native.Mathlib.Numerals.{add-one}
 use native.Mathlib.Omega.{arith}
 use Rattle.book.specs.Book.{sizesOf}
