@@ -26,7 +26,7 @@ fitting b S T words e =
     let sizes = not-refused 7 (samplesInRange (pos S) && topInRange (pos T)) (none-first _ _ e8) in
     record {
       book = none-first (bookNumber b) _ e;
-      samples-high = samples-high S (&&-left _ (topInRange (pos T)) sizes);
-      top-high = top-high T (&&-right (samplesInRange (pos S)) _ sizes);
+      samples-high = samples-high (pos S) (&&-left _ (topInRange (pos T)) sizes);
+      top-high = top-high (pos T) (&&-right (samplesInRange (pos S)) _ sizes);
       room = ltb-false words (storeLength S T) (condition-fails 8 _ (none-second (refuse 8 (not (samplesInRange (pos S) && topInRange (pos T)))) _ e8));
     }

@@ -28,7 +28,7 @@ use Rattle.control.proofs.Kept.{moved-valid}
 module _ (card : Card) (e : openNumber card ≡ 0) where
   pub open-top : card .top ≤ 4
   unfolding openNumber
-  open-top = top-high (card .top) (not-refused 7 (topInRange (pos (card .top))) (none-first _ _ e))
+  open-top = top-high (pos (card .top)) (not-refused 7 (topInRange (pos (card .top))) (none-first _ _ e))
 
   pub open-rate : rateInRange (card .rate) (card .top) ≡ true
   unfolding openNumber

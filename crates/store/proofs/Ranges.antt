@@ -4,7 +4,7 @@ use mathlib.Core.Path.{_≡_}
 use Prim.Native.Nat.{ℕ, _≤_, _<_}
 use native.Mathlib.Omega.{arith}
 use borrow.Author.Tests.{le-leb, lt-leb}
-use lib.IntN.{pos}
+use lib.IntN.{ℤ, pos, natAbs}
 use Rattle.arith.proofs.Tests.{within-size}
 use Rattle.store.specs.Sizes.{samplesInRange, topInRange}
 
@@ -30,10 +30,12 @@ top-above T h = let l : 0 ≤ T = omega arith in rw (le-leb 0 T l, lt-leb T 4 h)
 
 pub ruleset ranges = (samples-inside, samples-below, samples-above, top-inside, top-above)
 
-pub samples-high : (S : ℕ) → samplesInRange (pos S) ≡ true → S ≤ 1048576
-unfolding samplesInRange
-samples-high S e = within-size 1 1048576 (pos S) e .1
+-- and how large they are there, also where they are words of a header
 
-pub top-high : (T : ℕ) → topInRange (pos T) ≡ true → T ≤ 4
+pub samples-high : (S : ℤ) → samplesInRange S ≡ true → natAbs S ≤ 1048576
+unfolding samplesInRange
+samples-high S e = within-size 1 1048576 S e .1
+
+pub top-high : (T : ℤ) → topInRange T ≡ true → natAbs T ≤ 4
 unfolding topInRange
-top-high T e = within-size 0 4 (pos T) e .1
+top-high T e = within-size 0 4 T e .1

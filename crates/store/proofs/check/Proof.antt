@@ -7,11 +7,12 @@ use Prim.Native.Nat.{_≤_}
 use native.Mathlib.Omega.{arith}
 use lib.IntN.{ℤ}
 use Rattle.arith.specs.Lists.{at}
-use Rattle.arith.proofs.Tests.{tests, test-fails, test-holds, within-size}
+use Rattle.arith.proofs.Tests.{tests, test-fails, test-holds}
 use Rattle.book.specs.Number.{refuse, _otherwise_}
 use Rattle.store.specs.Sizes.{samplesInRange, topInRange, storeLength}
 use Rattle.store.specs.Store.{sampleCount, topLevel}
 use Rattle.store.specs.Check.{storeNumber}
+use Rattle.store.proofs.Ranges.{samples-high, top-high}
 use Rattle.store.proofs.Lengths.{storeLength-is}
 use Rattle.store.proofs.check.Statement.{statement}
 use Rattle.store.proofs.check.Tie as tie
@@ -26,9 +27,9 @@ module _ (c : tie.Else2) where
   unfolding samplesInRange
   samples-in = test-holds (c .before .word-between .ensures) (c .if2 .left)
 
-  samples-high : sampleCount header ≤ 1048576
-  unfolding samplesInRange sampleCount
-  samples-high = within-size 1 1048576 (at header 0) samples-in .1
+  count-high : sampleCount header ≤ 1048576
+  unfolding sampleCount
+  count-high = samples-high (at header 0) samples-in
 
 top-in : (c : tie.Else3) → topInRange (at (header (c .before .before)) 1) ≡ true
 unfolding topInRange
@@ -38,9 +39,9 @@ top-out : (c : tie.Then3) → topInRange (at (header (c .before .before)) 1) ≡
 unfolding topInRange
 top-out c = test-fails (c .before .word-between2 .ensures) (c .if3 .taken)
 
-top-high : (c : tie.Else3) → topLevel (header (c .before .before)) ≤ 4
-unfolding topInRange topLevel
-top-high c = within-size 0 4 (at (header (c .before .before)) 1) (top-in c) .1
+level-high : (c : tie.Else3) → topLevel (header (c .before .before)) ≤ 4
+unfolding topLevel
+level-high c = top-high (at (header (c .before .before)) 1) (top-in c)
 
 -- the length that they call for
 called-for : (c : tie.After-store-length) → let store = header (c .before .before .before .before .before) in c .store-length .result ≡ storeLength (sampleCount store) (topLevel store)
@@ -75,7 +76,7 @@ top-level-requires c κs = search needs
 store-length-requires : tie.Need-store-length-requires
 store-length-requires c κs =
     let e = c .before .before in
-    (omega (arith, c .before .sample-count .ensures, samples-high (e .before .before)), omega (arith, c .top-level .ensures, top-high e))
+    (omega (arith, c .before .sample-count .ensures, count-high (e .before .before)), omega (arith, c .top-level .ensures, level-high e))
 
 returns-4 : tie.Need-returns-4
 unfolding storeNumber refuse _otherwise_
@@ -85,7 +86,7 @@ lengths-right-requires : tie.Need-lengths-right-requires
 lengths-right-requires c κs =
     let e = c .before .before .before .before in
     let h = e .before .before in
-    (samples-high h, top-high e, omega (arith, called-for (c .before), storeLength-is (sampleCount (header h)) (topLevel (header h))))
+    (count-high h, level-high e, omega (arith, called-for (c .before), storeLength-is (sampleCount (header h)) (topLevel (header h))))
 
 returns-5 : tie.Need-returns-5
 unfolding storeNumber refuse _otherwise_
