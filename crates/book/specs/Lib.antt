@@ -1,3 +1,4 @@
 pub mod Number
 pub mod Book
 pub mod Check
+pub mod BookK

@@ -1,4 +1,5 @@
--- The starred bench cases of document 01 as one table, case I as document 02 (a) has it: what the definitions give, and what the documents state.
+-- The starred bench cases of document 01 as one table, case I as document 02 (a) has it, and the sample that document 02 (b) states: what the
+-- definitions give, and what the documents state.
 use mathlib.Core.Path.{_≡_, refl}
 use mathlib.Core.List.{List, [], _∷_, map}
 use Prim.Native.Nat.{ℕ}
@@ -11,6 +12,7 @@ use Rattle.arith.specs.Sum.{sum, total, sumAround}
 use Rattle.arith.specs.Tests.{eqZ, every}
 use Rattle.book.specs.Number.{refuse, _otherwise_}
 use Rattle.book.specs.Book.{sizesOf, differencesAt, levelTapsAt, decimationTapsAt, bookLength, impulseWord, impulse, difference, levelTaps, decimationTaps}
+use Rattle.book.specs.BookK.{bookWith, bookK}
 use Rattle.book.specs.Check.{powerOfTwo, sizesInRange, wordsInRange, coefficientsInRange, differencesRight, phaseSum, tapSum, sumsInRange, bookNumber}
 use Rattle.octave.specs.Octave.{halfLength, levelSum, levelWord, nextLevel}
 use Rattle.store.specs.Sizes.{samplesInRange, topInRange, levelLength, levelsBelow, headerLength, levelStart, storeLength}
@@ -30,15 +32,8 @@ use Rattle.points.specs.Points.{point}
 use Rattle.player.specs.Outputs.{push, pushTwo, nextVoice, voiceAfter, outputs}
 use Rattle.decimation.specs.Decimation.{outputSum, output}
 use Rattle.refusals.specs.Refusals.{glideCountWrong, outputCountWrong, positionWrong, levelsWrong, topWrong, levelsNumber, fadeWrong, rateWrong, glideWrong, historyWrong, lateNumber, openNumber, orderInputNumber, orderNumber, seekNumber, playStateNumber, playNumber, pointBound}
+use Rattle.test_hum.specs.Hum.{nextState, sampleOf, stateAfter, humSamples}
 use Rattle.player.specs.Calls.{zeroVoice, freshVoice, openAnswer, orderAnswer, seekAnswer, Played, playAnswer}
-
--- book K with another F, h[0] and g[0]
-abbrev pub bookWith : ℕ → ℕ → ℕ → List ℤ
-bookWith F h₀ g₀ = pos 2 ∷ pos 1 ∷ pos 0 ∷ pos 0 ∷ pos F ∷ pos 0 ∷ pos 16384 ∷ pos 16384 ∷ negsuc 16383 ∷ pos h₀ ∷ pos g₀ ∷ []
-
--- book K: 2,1,0,0,1, 0,16384, 16384,−16384, 16384, 16384
-abbrev pub bookK : List ℤ
-bookK = bookWith 1 16384 16384
 
 -- rates, by the bit pattern of the f32
 abbrev pub rate1 : Float
@@ -149,12 +144,16 @@ caseJ = record {
   stated = pos 8388608 ∷ pos 268435440 ∷ pos 10 ∷ [];
 }
 
+-- the test hum: from state 0 the first sample is −17298
+unfoldable pub caseHum : Case
+caseHum = record { found = humSamples 0 1; stated = negsuc 17297 ∷ [] }
+
 unfoldable pub starredCases : List Case
-starredCases = caseA ∷ caseB ∷ caseC ∷ caseD ∷ caseE ∷ caseF₁ ∷ caseF₂ ∷ caseG₁ ∷ caseG₂ ∷ caseH ∷ caseI ∷ caseJ ∷ []
+starredCases = caseA ∷ caseB ∷ caseC ∷ caseD ∷ caseE ∷ caseF₁ ∷ caseF₂ ∷ caseG₁ ∷ caseG₂ ∷ caseH ∷ caseI ∷ caseJ ∷ caseHum ∷ []
 
 -- each case is as stated
 pub starred : map (λ c. c .found) starredCases ≡ map (λ c. c .stated) starredCases
-unfolding starredCases caseA caseB caseC caseD caseE caseF₁ caseF₂ caseG₁ caseG₂ caseH caseI caseJ floorDiv near wordAt tabulate sum total sumAround eqZ every refuse _otherwise_ sizesOf differencesAt levelTapsAt decimationTapsAt bookLength impulseWord impulse difference levelTaps decimationTaps powerOfTwo sizesInRange wordsInRange coefficientsInRange differencesRight phaseSum tapSum sumsInRange bookNumber halfLength samplesInRange topInRange levelLength levelsBelow headerLength levelStart storeLength headerOf sampleCount topLevel storeLevel lengthsRight storeNumber firstLevel levelSum levelWord nextLevel levelOf levelsOf buildNumber builtStore buildAnswer ofBits rateInRange rateOf askedLevel advance freshControl jumped gliding sought glideRate glideAfter moveGlide fadeTarget pointPlan fadeAfter movePoint moveOutput limit limitedWord unit phaseAt offsetAt coefficient valueSum levelValue value point push pushTwo outputSum output nextVoice voiceAfter outputs glideCountWrong outputCountWrong positionWrong levelsWrong topWrong levelsNumber fadeWrong rateWrong glideWrong historyWrong lateNumber openNumber orderInputNumber orderNumber seekNumber playStateNumber playNumber zeroVoice freshVoice openAnswer ordered orderAnswer seekAnswer playAnswer
+unfolding starredCases caseA caseB caseC caseD caseE caseF₁ caseF₂ caseG₁ caseG₂ caseH caseI caseJ caseHum nextState sampleOf stateAfter humSamples floorDiv near wordAt tabulate sum total sumAround eqZ every refuse _otherwise_ sizesOf differencesAt levelTapsAt decimationTapsAt bookLength impulseWord impulse difference levelTaps decimationTaps powerOfTwo sizesInRange wordsInRange coefficientsInRange differencesRight phaseSum tapSum sumsInRange bookNumber halfLength samplesInRange topInRange levelLength levelsBelow headerLength levelStart storeLength headerOf sampleCount topLevel storeLevel lengthsRight storeNumber firstLevel levelSum levelWord nextLevel levelOf levelsOf buildNumber builtStore buildAnswer ofBits rateInRange rateOf askedLevel advance freshControl jumped gliding sought glideRate glideAfter moveGlide fadeTarget pointPlan fadeAfter movePoint moveOutput limit limitedWord unit phaseAt offsetAt coefficient valueSum levelValue value point push pushTwo outputSum output nextVoice voiceAfter outputs glideCountWrong outputCountWrong positionWrong levelsWrong topWrong levelsNumber fadeWrong rateWrong glideWrong historyWrong lateNumber openNumber orderInputNumber orderNumber seekNumber playStateNumber playNumber zeroVoice freshVoice openAnswer ordered orderAnswer seekAnswer playAnswer
 starred = refl
 
 -- ---- a play of more outputs than a program here can lend: 1048577 is refused 11, after 17; 1048576 is accepted

@@ -13,6 +13,7 @@ use Rattle.arith.specs.Sum.{sum, total, sumAround}
 use Rattle.arith.specs.Tests.{eqZ, within, every}
 use Rattle.book.specs.Number.{refuse, _otherwise_}
 use Rattle.book.specs.Book.{sizesOf, differencesAt, levelTapsAt, decimationTapsAt, bookLength, impulseWord, impulse, difference, levelTaps, decimationTaps}
+use Rattle.book.specs.BookK.{bookK}
 use Rattle.book.specs.Check.{powerOfTwo, sizesInRange, wordsInRange, coefficientsInRange, differencesRight, phaseSum, tapSum, sumsInRange, bookNumber}
 use Rattle.octave.specs.Octave.{halfLength, levelSum, levelWord, nextLevel}
 use Rattle.store.specs.Sizes.{samplesInRange, topInRange, levelLength, levelsBelow, headerLength, levelStart, storeLength}
@@ -38,7 +39,7 @@ use Rattle.drive.specs.Demand.{Setting, storeOf, Close}
 use Rattle.drive.proofs.Theorem.{demand3}
 
 abbrev pub book : List ℤ
-book = pos 2 ∷ pos 1 ∷ pos 0 ∷ pos 0 ∷ pos 1 ∷ pos 0 ∷ pos 16384 ∷ pos 16384 ∷ negsuc 16383 ∷ pos 16384 ∷ pos 16384 ∷ []
+book = bookK
 
 abbrev pub recording : List ℤ
 recording = pos 0 ∷ pos 1000 ∷ pos 2000 ∷ []

@@ -14,19 +14,31 @@ pub fn next_integer(x: i32) {
     integer(x);
 }
 
-// A blank, and then the sample.
-fn next_sample(x: i16) {
-    next_integer(x as i32);
+// A sample between two texts.
+fn sample(before: &[u8], x: i16, after: &[u8]) {
+    io::write_all(1, before);
+    integer(x as i32);
+    io::write_all(1, after);
+}
+
+// Each of a slice of samples between two texts.
+fn each(before: &[u8], block: &[i16], after: &[u8]) {
+    let mut i = 0;
+    while i < block.len() {
+        sample(before, block[i], after);
+        i += 1;
+    }
 }
 
 // A blank before each of a slice of samples, and the end of the line.
 pub fn samples(block: &[i16]) {
-    let mut i = 0;
-    while i < block.len() {
-        next_sample(block[i]);
-        i += 1;
-    }
+    each(b" ", block, b"");
     end_line();
+}
+
+// Each of a slice of samples on a line of its own.
+pub fn lines(block: &[i16]) {
+    each(b"", block, b"\n");
 }
 
 // A blank before each of a slice of words, and the end of the line.
