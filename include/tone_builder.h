@@ -3,10 +3,10 @@
  * studio needs to prepare a recording, and knows no player.
  *
  * A filter book is tested, and the octave levels of a recorded 16-bit hum are
- * built into a store, which a unit plays (tone.h). The calls are in
- * libtone_builder.a, for x86-64; link with -ltone_builder. The archive needs the C
- * library and nothing else. It shares no symbol with libtone.a: a program may link
- * both.
+ * built into a store, which a unit plays (tone.h). Where no recording is at hand
+ * there is a test hum. The calls are in libtone_builder.a, for x86-64; link with
+ * -ltone_builder. The archive needs the C library and nothing else. It shares no
+ * symbol with libtone.a: a program may link both.
  *
  *   const int32_t book[] = { .. };                  a filter book
  *   tone_check(book, book_words);
@@ -62,6 +62,21 @@ size_t tone_store_words(size_t sample_count, uint32_t top);
 uint32_t tone_build(const int32_t *book, size_t book_words,
                     const int16_t *samples, size_t sample_count, uint32_t top,
                     int32_t *store, size_t store_words);
+
+/*
+ * The test hum: a recording that anyone can make again. Its state is 32 bits, and
+ * the next one is 1664525 x state + 1013904223, modulo 2^32; a sample is the new
+ * state divided by 65536, rounded down, minus 32768. From state 0 it begins with
+ * -17298.
+ *
+ * Numbers: none; every state and every count is taken.
+ * Writes:  all `sample_count` samples.
+ * Returns: the last state, from which another call goes on; with no samples it is
+ *          the one that was given.
+ *
+ * State and samples are those of drawAnswer (crates/test_hum/specs/Hum.antt).
+ */
+uint32_t tone_test_hum(uint32_t state, int16_t *samples, size_t sample_count);
 
 #ifdef __cplusplus
 }

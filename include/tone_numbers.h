@@ -12,9 +12,9 @@
  * N, M, A, B, F, S, T, R, P, i, c and j are those of the player's rules (document
  * 01).
  *
- * A call returns TONE_ACCEPTED, which is 0, or the number of a refusal. Each
- * call lists its numbers in their order: it returns the first whose condition
- * holds.
+ * A call that has numbers returns TONE_ACCEPTED, which is 0, or the number of a
+ * refusal. It lists its numbers in their order, and returns the first whose
+ * condition holds.
  *
  * A refused call writes nothing: voice, store and output are as they came. The
  * one exception is tone_open, which says what it writes then.

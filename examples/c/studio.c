@@ -1,6 +1,7 @@
 /*
- * A studio's program: tests books, asks how long stores are, and builds the stores
- * of document 01's bench cases, with its book K. It knows no player. From the
+ * A studio's program: tests books, asks how long stores are, builds the stores of
+ * document 01's bench cases, with its book K, and draws the test hum's first
+ * samples. It knows no player. From the
  * repository's root, once `rt staticlib tone_builder` has written the archive:
  *
  *   gcc -std=c99 -Iinclude examples/c/studio.c -Ltarget/staticlib -ltone_builder -o studio
@@ -73,6 +74,21 @@ static void refusal(void)
     printf("the store is %s\n", memcmp(store, before, sizeof store) == 0 ? "as it was" : "changed");
 }
 
+/* The first samples of the test hum, in two calls: the second goes on where the
+ * first one ended. */
+static void test_hum(void)
+{
+    int16_t samples[8];
+    uint32_t state = tone_test_hum(0, samples, 5);
+    size_t k;
+
+    state = tone_test_hum(state, samples + 5, 3);
+    printf("test hum:");
+    for (k = 0; k < 8; k++)
+        printf(" %d", samples[k]);
+    printf(", state %lu\n", (unsigned long)state);
+}
+
 int main(void)
 {
     const int16_t rising[3] = {0, 1000, 2000};
@@ -93,5 +109,6 @@ int main(void)
     build('G', 16384, highest, 3, 0);
     build('G', 16384, lowest, 3, 0);
     refusal();
+    test_hum();
     return EXIT_SUCCESS;
 }

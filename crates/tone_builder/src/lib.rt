@@ -1,9 +1,11 @@
-// The level builder's archive, for C and Rust: what a studio needs to test a book and to build the levels of a recording. Nothing here
-// knows a voice.
+// The level builder's archive, for C and Rust: what a studio needs to test a book and to build the levels of a recording, and the test hum.
+// Nothing here knows a voice.
 
 ghost use mathlib.Core.Path.{_≡_};
+ghost use lib.ListN.{length};
 ghost use Rattle.book.specs.Check.{bookNumber};
 ghost use Rattle.levels.specs.Build.{built, buildAnswer};
+ghost use Rattle.test_hum.specs.Hum.{drawn, drawAnswer};
 ghost use Rattle.tone_builder.specs.Store.{storeWords};
 
 // 0 for an accepted book, else the first of the numbers 1 to 7.
@@ -37,4 +39,12 @@ pub extern "C" fn tone_build(book: &[i32], samples: &[i16], top: u32, store: &mu
     ensures { λ r. ⌜ built r (now (store .exit)) ≡ buildAnswer (now (book .entry)) (now (samples .entry)) top (now (store .entry)) ⌝ }
 {
     levels::build(book, samples, top, store)
+}
+
+// Fills the samples with the test hum from a state on, and hands back the last state.
+#[no_mangle]
+pub extern "C" fn tone_test_hum(state: u32, samples: &mut [i16]) -> u32
+    ensures { λ r. ⌜ drawn r (now (samples .exit)) ≡ drawAnswer state (length (now (samples .entry))) ⌝ }
+{
+    test_hum::draw(state, samples)
 }

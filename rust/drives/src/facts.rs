@@ -1,13 +1,17 @@
-//! What the programs `level_facts` and `player_facts` must print: the renderer's
-//! answers to the calls that they make. Each module is in the order of its program
-//! and with its names, so that the two can be read side by side.
+//! What the programs `level_facts`, `player_facts` and `test_drive` must print: the
+//! renderer's answers to the calls that they make. Each module is in the order of
+//! its program and with its names, so that the two can be read side by side; the
+//! text of `test_drive` is the renderer's own.
 //!
-//! `recorded --facts crates` writes both texts; the test `recorded` holds the files
+//! `recorded --facts crates` writes the texts; the test `recorded` holds the files
 //! to what is made here.
 
 mod damage;
 pub mod levels;
 pub mod player;
+
+use crate::EDITION;
+use renderer::programs::hum_program;
 
 /// Document 01's book K.
 const K: [i32; 11] = [2, 1, 0, 0, 1, 0, 16384, 16384, -16384, 16384, 16384];
@@ -18,11 +22,12 @@ fn changed<const L: usize>(mut words: [i32; L], at: usize, word: i32) -> [i32; L
     words
 }
 
-/// The files of both programs, by their paths in the folder of all programs.
+/// The files of the programs, by their paths in the folder of all programs.
 pub fn files() -> Vec<(String, String)> {
     let texts = [
         ("level_facts", levels::text()),
         ("player_facts", player::text()),
+        ("test_drive", hum_program(EDITION)),
     ];
     texts
         .map(|(program, text)| (format!("{program}/stdout"), text))

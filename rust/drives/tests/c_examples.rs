@@ -5,7 +5,7 @@ use drives::recorded::line;
 use drives::EDITION;
 use renderer::book::book_number;
 use renderer::levels::{build, store_length};
-use renderer::programs::{bench_cases, book_k};
+use renderer::programs::{bench_cases, book_k, Hum};
 use renderer::voice::{open, order, play, Card, Order, Voice};
 use std::fs;
 use std::path::Path;
@@ -26,6 +26,13 @@ fn opened() -> Voice {
     let (number, voice) = open(EDITION, Card { rate: 1.0, top: 1 });
     assert_eq!(number, 0);
     voice
+}
+
+/// The first eight samples of the test hum, and the state after them.
+fn test_hum() -> String {
+    let mut hum = Hum { state: 0 };
+    let samples: [String; 8] = std::array::from_fn(|_| hum.next_sample().to_string());
+    format!("test hum: {}, state {}\n", samples.join(" "), hum.state)
 }
 
 #[test]
@@ -55,6 +62,7 @@ fn studio() {
     text += &format!("B in 8 words: number {number}, {meaning}\n");
     assert_eq!(short, [7; 8]);
     text += "the store is as it was\n";
+    text += &test_hum();
     assert_eq!(expected("studio"), text);
 }
 

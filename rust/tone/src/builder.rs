@@ -1,5 +1,5 @@
-//! The studio's half: the check of a book and the level builder. It knows no
-//! voice.
+//! The studio's half: the check of a book, the level builder and the test hum. It
+//! knows no voice.
 
 use crate::archive;
 use crate::Refusal;
@@ -44,4 +44,26 @@ pub fn store_words(sample_count: usize, top: u32) -> Option<usize> {
 /// ```
 pub fn build(book: &[i32], samples: &[i16], top: u32, store: &mut [i32]) -> Result<(), Refusal> {
     Refusal::answer(archive::build(book, samples, top, store))
+}
+
+/// The test hum, a recording that anyone can make again: fills the samples from a
+/// state on, and hands back the last state, from which another call goes on. The
+/// hum begins at state 0.
+///
+/// A state is followed by 1664525 × state + 1013904223, modulo 2^32, and a sample
+/// is the new state divided by 65536, rounded down, minus 32768.
+///
+/// ```
+/// let mut first = [0];
+/// let state = tone::test_hum(0, &mut first);
+/// assert_eq!((first, state), ([-17298], 1_013_904_223));
+///
+/// let mut whole = [0; 100];
+/// tone::test_hum(0, &mut whole);
+/// let mut rest = [0; 99];
+/// tone::test_hum(state, &mut rest);
+/// assert_eq!(whole[1..], rest);
+/// ```
+pub fn test_hum(state: u32, samples: &mut [i16]) -> u32 {
+    archive::test_hum(state, samples)
 }

@@ -17,8 +17,8 @@
 //! The two halves are features, both on unless switched off. Each links its own
 //! archive and needs no other:
 //!
-//! - `builder`, for studios: [`builder`] with [`check`], [`store_words`] and
-//!   [`build`], over libtone_builder.a.
+//! - `builder`, for studios: [`builder`] with [`check`], [`store_words`],
+//!   [`build`] and [`test_hum`], over libtone_builder.a.
 //! - `player`, for units: [`player`] with [`check_store`], [`top_level`] and
 //!   [`Voice`], over libtone.a.
 //!
@@ -61,7 +61,7 @@ pub mod player;
 mod refusal;
 
 #[cfg(feature = "builder")]
-pub use builder::{build, check, store_words};
+pub use builder::{build, check, store_words, test_hum};
 #[cfg(feature = "player")]
 pub use player::{check_store, top_level, Voice, MOST_GLIDE, MOST_OUTPUTS, VOICE_WORDS};
 pub use refusal::{Refusal, VOICE_LENGTH};

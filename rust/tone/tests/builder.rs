@@ -1,6 +1,6 @@
 //! The studio's half: what needs no voice.
 
-use tone::{build, check, store_words};
+use tone::{build, check, store_words, test_hum};
 
 /// Book K with another h[0].
 fn book_k(h: i32) -> Vec<i32> {
@@ -89,5 +89,24 @@ fn case_i() {
         (1, u32::MAX),
     ] {
         assert_eq!(store_words(sample_count, top), None);
+    }
+}
+
+/// From a state, by document 02's rule, in one call or in two.
+#[test]
+fn samples_and_states_of_the_test_hum() {
+    for state in [0, 1, 0x8000_0000, u32::MAX] {
+        let (mut last, mut expected) = (u64::from(state), Vec::new());
+        for _ in 0..300 {
+            last = (1_664_525 * last + 1_013_904_223) % (1 << 32);
+            expected.push((last / 65536) as i64 - 32768);
+        }
+        for cut in [0, 1, 299, 300] {
+            let mut samples = [7; 300];
+            let (first, second) = samples.split_at_mut(cut);
+            let end = test_hum(test_hum(state, first), second);
+            assert_eq!(u64::from(end), last);
+            assert_eq!(samples.map(i64::from), expected[..]);
+        }
     }
 }

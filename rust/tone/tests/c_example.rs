@@ -171,7 +171,15 @@ fn exported_and_needed(archive: &str) -> (Vec<String>, Vec<String>) {
 fn each_archive_exports_its_half_and_needs_no_other() {
     let (builder, builder_needs) = exported_and_needed("tone_builder");
     let (player, player_needs) = exported_and_needed("tone");
-    assert_eq!(builder, ["tone_build", "tone_check", "tone_store_words"]);
+    assert_eq!(
+        builder,
+        [
+            "tone_build",
+            "tone_check",
+            "tone_store_words",
+            "tone_test_hum"
+        ]
+    );
     assert_eq!(
         player,
         [

@@ -1,9 +1,9 @@
-//! A studio's program: tests books, asks how long stores are, and builds the
-//! stores of document 01's bench cases, with its book K. It knows no player and
-//! links no more than libtone_builder.a. It prints what its twin in C prints,
-//! `examples/c/studio.txt`.
+//! A studio's program: tests books, asks how long stores are, builds the stores of
+//! document 01's bench cases, with its book K, and draws the test hum's first
+//! samples. It knows no player and links no more than libtone_builder.a. It prints
+//! what its twin in C prints, `examples/c/studio.txt`.
 
-use tone::{build, check, store_words, Refusal};
+use tone::{build, check, store_words, test_hum, Refusal};
 
 /// Book K with a level tap h[0]; 16384 leaves the levels unfiltered.
 fn book_k(level_tap: i32) -> [i32; 11] {
@@ -45,6 +45,16 @@ fn refusal() {
     println!("the store is {kept}");
 }
 
+/// The first samples of the test hum, in two calls: the second goes on where the
+/// first one ended.
+fn print_test_hum() {
+    let mut samples = [0; 8];
+    let state = test_hum(0, &mut samples[..5]);
+    let state = test_hum(state, &mut samples[5..]);
+    let samples = samples.map(|sample| sample.to_string());
+    println!("test hum: {}, state {state}", samples.join(" "));
+}
+
 fn main() -> Result<(), Refusal> {
     let book = book_k(16384);
     println!("book K: number {}", number(check(&book)));
@@ -63,5 +73,6 @@ fn main() -> Result<(), Refusal> {
     print_store('G', 16384, &[i16::MAX; 3], 0)?;
     print_store('G', 16384, &[i16::MIN; 3], 0)?;
     refusal();
+    print_test_hum();
     Ok(())
 }

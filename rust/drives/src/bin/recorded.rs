@@ -4,8 +4,9 @@
 //! recorded --rattle FOLDER: writes the drives of the program `recorded_drives`,
 //! and its expected output, into its folder; see `drives::rattle`.
 //!
-//! recorded --facts FOLDER: writes the expected outputs of the programs `level_facts`
-//! and `player_facts` into their folders in this one; see `drives::facts`.
+//! recorded --facts FOLDER: writes the expected outputs of the programs `level_facts`,
+//! `player_facts` and `test_drive` into their folders in this one; see
+//! `drives::facts`.
 
 use drives::recorded::small_drive;
 use drives::{facts, rattle};

@@ -16,6 +16,8 @@ mod symbols {
             store: *mut i32,
             store_words: usize,
         ) -> u32;
+
+        pub fn tone_test_hum(state: u32, samples: *mut i16, sample_count: usize) -> u32;
     }
 }
 
@@ -46,4 +48,10 @@ pub fn build(book: &[i32], samples: &[i16], top: u32, store: &mut [i32]) -> u32 
             store.len(),
         )
     }
+}
+
+/// The test hum from a state on. Hands back the last state.
+pub fn test_hum(state: u32, samples: &mut [i16]) -> u32 {
+    // SAFETY: `samples` is a valid slice, exclusively borrowed.
+    unsafe { symbols::tone_test_hum(state, samples.as_mut_ptr(), samples.len()) }
 }

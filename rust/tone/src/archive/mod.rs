@@ -1,7 +1,7 @@
 //! The archives' own calls: slices and numbers, nothing else.
 //!
-//! Each function returns the number of documents 01 and 02 that refused the call,
-//! or 0, in the order that stands beside it.
+//! A function that has numbers beside it returns the one of documents 01 and 02
+//! that refused the call, the first in that order, or 0.
 //! [`VOICE_LENGTH`](crate::VOICE_LENGTH) is returned, before every other number,
 //! where a voice slice is not `VOICE_WORDS` long. A refusal writes nothing, but
 //! that a refused `open` writes the zero record, unless its slice has the wrong
@@ -19,6 +19,6 @@ mod builder;
 mod player;
 
 #[cfg(feature = "builder")]
-pub use builder::{build, check, store_words};
+pub use builder::{build, check, store_words, test_hum};
 #[cfg(feature = "player")]
 pub use player::{check_store, glide, jump, open, play, seek};

@@ -7,5 +7,6 @@ mod build;
 mod check;
 mod examples;
 mod files;
+mod hum;
 mod play;
 mod usage;

@@ -264,7 +264,7 @@ fn drives_and_stores_that_cannot_be_read() {
     }
     unusable(
         &stage.play("1", &"play 1048576\n".repeat(2048)),
-        &["2147483648 outputs", "WAV"],
+        &["2147483648 samples", "WAV"],
     );
     stage.folder.write("hum.store", [0; 21]);
     unusable(&stage.play("1", "play 1"), &["hum.store", "4-byte words"]);

@@ -10,6 +10,7 @@ fn help_and_version() {
             "tone check BOOK",
             "tone build BOOK RECORDING.wav T STORE\n",
             "tone play BOOK STORE RATE DRIVE OUT.wav\n",
+            "tone hum COUNT OUT.wav\n",
             "--sample-rate",
             "Exit status",
         ] {
@@ -40,7 +41,10 @@ fn wrong_usage() {
     // S and T are in the store, and no arguments
     unusable(&run!("play", "a", "b", "3", "1", "1", "d", "o"), &play);
     unusable(&run!("check", "--fast", "a"), &["no option --fast"]);
-    unusable(&run!("check", "--sample-rate", "8000", "a"), &["tone play"]);
+    for name in ["check", "build"] {
+        let output = run!(name, "--sample-rate", "8000", "a");
+        unusable(&output, &["goes with tone play and tone hum"]);
+    }
     unusable(
         &run!("build", "a", "b", "two", "s"),
         &["T", "\"two\"", "whole number"],

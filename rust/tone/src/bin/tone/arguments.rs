@@ -24,6 +24,12 @@ tone: the driving-tone player, for studios and fitters
                            pitch for rate 1 if the recording had the same;
                            48000 if not given
 
+    tone hum COUNT OUT.wav
+        Writes the first COUNT samples of the test hum, which anyone can make
+        again: from state 0 on, the next state is 1664525 x state + 1013904223,
+        modulo 2^32, and a sample is the new state divided by 65536, rounded
+        down, minus 32768. --sample-rate HZ as above.
+
     tone --help, tone --version
 
 T is 0..4, S is 1..1048576, and RATE is a decimal from 1/16 up to below 2^(T+1),
@@ -69,6 +75,8 @@ pub enum Request {
     Build(BuildRequest),
     /// `tone play`
     Play(PlayRequest),
+    /// `tone hum`
+    Hum(HumRequest),
 }
 
 /// `tone check BOOK`
@@ -108,6 +116,17 @@ pub struct PlayRequest {
     pub sample_rate: u32,
 }
 
+/// `tone hum COUNT OUT.wav`
+#[derive(Debug)]
+pub struct HumRequest {
+    /// COUNT
+    pub count: u64,
+    /// OUT.wav
+    pub out: PathBuf,
+    /// HZ
+    pub sample_rate: u32,
+}
+
 /// The arguments as they were given, options apart.
 #[derive(Default)]
 struct Given {
@@ -129,9 +148,10 @@ pub fn read(arguments: impl Iterator<Item = OsString>) -> Result<Request, Failur
     let Some((command, operands)) = given.operands.split_first() else {
         return Err(misused("no command"));
     };
-    if given.sample_rate.is_some() && command != "play" {
-        return Err(misused("--sample-rate goes with tone play"));
+    if given.sample_rate.is_some() && command != "play" && command != "hum" {
+        return Err(misused("--sample-rate goes with tone play and tone hum"));
     }
+    let sample_rate = given.sample_rate.unwrap_or(SAMPLE_RATE);
     match (command.to_str(), operands) {
         (Some("check"), [book]) => Ok(Request::Check(CheckRequest { book: book.into() })),
         (Some("build"), [book, recording, top, store]) => Ok(Request::Build(BuildRequest {
@@ -146,9 +166,14 @@ pub fn read(arguments: impl Iterator<Item = OsString>) -> Result<Request, Failur
             rate: opening_rate(rate)?,
             drive: drive.into(),
             out: out.into(),
-            sample_rate: given.sample_rate.unwrap_or(SAMPLE_RATE),
+            sample_rate,
         })),
-        (Some(name @ ("check" | "build" | "play")), _) => Err(misused(&format!(
+        (Some("hum"), [count, out]) => Ok(Request::Hum(HumRequest {
+            count: number("COUNT", count)?,
+            out: out.into(),
+            sample_rate,
+        })),
+        (Some(name @ ("check" | "build" | "play" | "hum")), _) => Err(misused(&format!(
             "wrong count of arguments, usage is {}",
             usage(name)
         ))),

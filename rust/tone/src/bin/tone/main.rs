@@ -1,11 +1,12 @@
 //! The command `tone`, for studios and fitters: tests filter books, builds the
-//! octave levels of recordings, and plays drives into WAV files. Every call is
-//! the library's, and a refusal is shown with its number.
+//! octave levels of recordings, plays drives into WAV files, and makes the test hum.
+//! Every call is the library's, and a refusal is shown with its number.
 //!
 //! ```text
 //! tone check BOOK
 //! tone build BOOK RECORDING.wav T STORE
 //! tone play BOOK STORE RATE DRIVE OUT.wav
+//! tone hum COUNT OUT.wav
 //! ```
 //!
 //! [`arguments::HELP`] is what `tone --help` prints: the forms of all files and
@@ -30,10 +31,13 @@ use std::io::Write;
 use std::path::Path;
 use std::process::ExitCode;
 
-use arguments::{BuildRequest, CheckRequest, PlayRequest, Request};
+use arguments::{BuildRequest, CheckRequest, HumRequest, PlayRequest, Request};
 use failure::Failure;
 use output::Output;
 use progress::Progress;
+
+/// Samples of the test hum that are made at once.
+const HUM_BLOCK: usize = 4096;
 
 fn main() -> ExitCode {
     match run() {
@@ -53,6 +57,7 @@ fn run() -> Result<(), Failure> {
         Request::Check(request) => check(&request),
         Request::Build(request) => build(&request),
         Request::Play(request) => play(&request),
+        Request::Hum(request) => hum(&request),
     }
 }
 
@@ -116,4 +121,27 @@ fn play(request: &PlayRequest) -> Result<(), Failure> {
     output.finish()?;
     drop(progress);
     say(format_args!("{} outputs\n", header.samples()))
+}
+
+/// The test hum, a block after another.
+fn hum(request: &HumRequest) -> Result<(), Failure> {
+    let header = wav::Header::new(request.sample_rate, request.count)
+        .map_err(|fault| Failure::unusable("COUNT", fault))?;
+    let count = header.samples() as usize;
+    let mut output = Output::create(&request.out, &[])?;
+    output.write_with(|file| header.write(file))?;
+    let mut progress = Progress::new();
+    let mut block = [0; HUM_BLOCK];
+    let (mut state, mut done) = (0, 0);
+    while done < count {
+        interrupt::test()?;
+        let part = &mut block[..HUM_BLOCK.min(count - done)];
+        state = tone::test_hum(state, part);
+        output.write_with(|file| wav::write_samples(file, part))?;
+        done += part.len();
+        progress.show(format_args!("{done} of {count} samples"));
+    }
+    output.finish()?;
+    drop(progress);
+    say(format_args!("{count} samples\n"))
 }

@@ -75,7 +75,7 @@ impl fmt::Display for Fault {
             }
             Fault::HalfSample => write!(f, "the WAV file's data end in half a sample"),
             Fault::TooLong(count) => {
-                write!(f, "plays {count} outputs, more than a WAV file can hold")
+                write!(f, "{count} samples, more than a WAV file can hold")
             }
         }
     }
