@@ -1,7 +1,6 @@
 -- `test_setting::orders::rate_from` meets its contract: neither the cast nor the product rounds. Assumes nothing.
 use borrow.Author.Needs.{needs}
-use borrow.Author.Tests.{le-leb}
-use Prim.Native.Nat.{_+_, _/_, _^_, _≤_}
+use Prim.Native.Nat.{_+_, _/_, _^_}
 use native.Mathlib.Omega.{arith}
 use lib.Dec.{le→leb}
 use lib.Ieee.{inFloat, ofBits}
