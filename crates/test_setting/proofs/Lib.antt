@@ -1,2 +1,2 @@
--- What a reader of the orders may want: their rates are exact, and none is refused.
+-- What a reader of the orders may want: their rates are exact, and none is refused for its rate or count.
 pub mod Rates

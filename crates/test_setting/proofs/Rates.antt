@@ -1,5 +1,5 @@
--- Rates of the stream: a whole number over 64 is an f32 exactly, and the product with 1/64 makes it. No order of the stream is refused by a voice for
--- T 2 or more. Assumes nothing.
+-- Rates of the stream: a whole number over 64 is an f32 exactly, and the product with 1/64 makes it. No order of the stream is refused for its rate or
+-- count where T is 2 or more. Assumes nothing.
 use mathlib.Core.Bool.{Bool, true, false, cond, true≢false}
 use mathlib.Core.Path.{_≡_, refl, sym, ap, _∙_}
 use Prim.Native.Nat.{ℕ, _+_, _*_, _/_, _%_, _^_, _≤_, _<_}
