@@ -1,22 +1,21 @@
 -- `test_setting::build_store` meets its contract: the book, S and T are accepted, and the store has just the words that are written. Assumes nothing.
 use borrow.Author.Needs.{needs}
-use mathlib.Core.List.{List}
+use mathlib.Core.List.{List, append-nil}
 use mathlib.Core.Path.{_≡_, refl, ap, _∙_}
 use Prim.Native.Nat.{suc}
-use native.Mathlib.Omega.{arith}
 use lib.IntN.{ℤ}
 use lib.ListN.{length}
+use lib.Seq.{drop-length}
 use Rattle.arith.specs.Sum.{total}
 use Rattle.arith.specs.Tests.{eqZ, every}
 use Rattle.arith.proofs.Lists.{length-tabulate}
-use Rattle.arith.proofs.Parts.{overwrite-end}
 use Rattle.book.specs.Number.{refuse, _otherwise_}
 use Rattle.book.specs.Book.{sizesOf, differencesAt, levelTapsAt, decimationTapsAt, bookLength, impulseWord, impulse, difference, levelTaps, decimationTaps}
 use Rattle.book.specs.Check.{powerOfTwo, sizesInRange, wordsInRange, coefficientsInRange, differencesRight, phaseSum, tapSum, sumsInRange, bookNumber}
 use Rattle.octave.specs.Octave.{halfLength}
 use Rattle.store.specs.Sizes.{samplesInRange, topInRange, levelLength, levelsBelow, headerLength, levelStart, storeLength}
-use Rattle.levels.specs.Build.{buildNumber, buildAnswer, builtStore}
-use Rattle.levels.proofs.Stores.{length-built}
+use Rattle.levels.specs.Build.{buildNumber, buildAnswer}
+use Rattle.levels.proofs.Stores.{accepted-store}
 use Rattle.test_hum.specs.Hum.{sampleOf, stateAfter, humSamples, drawAnswer}
 use Rattle.test_setting.specs.Setting.{testBook, testRecording, testStore}
 use Rattle.test_setting.proofs.build_store.Statement.{statement}
@@ -35,12 +34,12 @@ unfolding eqZ every total refuse _otherwise_ sizesOf differencesAt levelTapsAt d
 accepted = refl
 
 -- a store of just the words that are written holds them alone
-built-store : (given : List ℤ) → length given ≡ 11205 → buildAnswer testBook testRecording 2 given .store ≡ testStore
+store-filled : (given : List ℤ) → length given ≡ 11205 → buildAnswer testBook testRecording 2 given .store ≡ testStore
 unfolding buildAnswer testStore
-built-store given e =
-    let words : List ℤ = builtStore (levelTaps testBook) testRecording 2 in
-    let count : length words ≡ 11205 = length-built (levelTaps testBook) testRecording 2 ∙ ap (λ n. storeLength n 2) length-recording ∙ length-store in
-    simp (length-recording, e, accepted) (overwrite-end given words 0 (omega (arith, count)))
+store-filled given e =
+    let none : buildAnswer testBook testRecording 2 given .number ≡ 0 = simp (length-recording, e, accepted) in
+    let end : storeLength (length testRecording) 2 ≡ length given = simp (length-recording, length-store, e) in
+    accepted-store testBook testRecording given 2 none ∙ simp (end, drop-length, append-nil)
 
 draw-requires : tie.Need-draw-requires
 draw-requires c κs = search needs
@@ -65,7 +64,7 @@ returns c =
     let drawn-is = drawing .draw .ensures ∙ ap (drawAnswer 0) (start .pre .0) in
     let samples-are = ap (λ d. d .samples) drawn-is in (
       ap (λ d. d .state) drawn-is,
-      ap (λ a. a .store) (c .before .build .ensures) ∙ ap (λ xs. buildAnswer testBook xs 2 (start .args .store .now) .store) samples-are ∙ built-store (start .args .store .now) (start .pre .1),
+      ap (λ a. a .store) (c .before .build .ensures) ∙ ap (λ xs. buildAnswer testBook xs 2 (start .args .store .now) .store) samples-are ∙ store-filled (start .args .store .now) (start .pre .1),
     )
 
 pub build-store-spec : {M : Type 1} → statement M

@@ -10,6 +10,8 @@ use std::sync::atomic::{AtomicU32, Ordering};
 
 use tone::{Refusal, Voice};
 
+use crate::places::repository;
+
 /// Book K of document 01.
 pub const K: [i32; 11] = [2, 1, 0, 0, 1, 0, 16384, 16384, -16384, 16384, 16384];
 
@@ -123,7 +125,7 @@ pub fn pattern(count: usize) -> Vec<i16> {
 }
 
 pub fn examples() -> PathBuf {
-    Path::new(env!("CARGO_MANIFEST_DIR")).join("../../examples")
+    repository().join("examples")
 }
 
 /// The example book's words.

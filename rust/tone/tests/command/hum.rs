@@ -5,6 +5,7 @@ use std::path::Path;
 use std::process::Command;
 
 use crate::bench::{accepted, unusable, wav_of, Folder};
+use crate::places::repository;
 
 /// States of the test hum after `state`, by document 02's rule.
 fn states(state: u64) -> impl Iterator<Item = u64> {
@@ -69,10 +70,6 @@ fn drive() -> String {
         }
     };
     states(0).skip(6400).take(64).map(call).collect()
-}
-
-fn repository() -> &'static Path {
-    Path::new(concat!(env!("CARGO_MANIFEST_DIR"), "/../.."))
 }
 
 /// What `tone` makes of the test hum, its book and its orders is the text that the

@@ -8,5 +8,8 @@ mod check;
 mod examples;
 mod files;
 mod hum;
+#[allow(dead_code)] // the command's tests link no archive by its path
+#[path = "../places/mod.rs"]
+mod places;
 mod play;
 mod usage;
