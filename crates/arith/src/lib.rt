@@ -1,10 +1,12 @@
-// Signed fixed-point arithmetic: absolute value, floor division, and rounding to the nearest integer.
+// Signed fixed-point arithmetic: absolute value, floor division, rounding to the nearest integer, and the limit to 16 bits.
 
 ghost use mathlib.Core.Path.{_≡_};
+ghost use mathlib.Core.Bool.{cond};
 ghost use Prim.Native.Nat.{_+_, _^_, _≤_};
-ghost use lib.IntN.{pos, natAbs, _-ℤ_, _*ℤ_};
-ghost use lib.Signed.{_<ℤ_, _≤ℤ_};
+ghost use lib.IntN.{pos, negsuc, natAbs, _-ℤ_, _*ℤ_};
+ghost use lib.Signed.{ltZ, _<ℤ_, _≤ℤ_};
 ghost use Rattle.arith.specs.Floor.{floorDiv, near};
+ghost use Rattle.arith.specs.Limit.{limit};
 
 pub mod words; // words of a slice, by their size and range
 
@@ -51,4 +53,22 @@ pub fn near(a: i64, b: i64) -> i64
     ensures { λ r. ⌜ r ≡ near a (natAbs b) ⌝ }
 {
     floor_shift(2 * a + b, 2 * b)
+}
+
+// The larger of x and 0. The shift gives -1 below 0 and else 0, so that the product is x below 0 and else 0.
+fn positive_part(x: i32) -> i32
+    ensures { λ r. ⌜ r ≡ cond (ltZ x (pos 0)) (pos 0) x ⌝ }
+{
+    x - x * (0 - (x >> 31))
+}
+
+// x, limited to -32768..32767: the last step of an output. It has no branch, nor has what it calls, so that a loud hum takes the time of a
+// quiet one. How far x lies above the lower end, 0 if below; then how far that lies below the upper end, 0 if above.
+pub fn limit16(x: i32) -> i16
+    requires { ⌜ natAbs x ≤ 2 ^ 30 ⌝ }
+    ensures { λ r. ⌜ r ≡ limit (negsuc 32767) (pos 32767) x ⌝ }
+{
+    let risen = positive_part(x + 32768);
+    let left = positive_part(65535 - risen);
+    (32767 - left) as i16
 }

@@ -100,14 +100,7 @@ fn sample(sum: i64) -> i16
     requires { ⌜ natAbs sum ≤ 2 ^ 44 ⌝ }
     ensures { λ r. ⌜ r ≡ sampleOf sum ⌝ }
 {
-    let x = arith::near(sum, 4194304);
-    if x < -32768 {
-        return -32768;
-    }
-    if 32767 < x {
-        return 32767;
-    }
-    x as i16
+    arith::limit16(arith::near(sum, 4194304) as i32)
 }
 
 // Writes the output of a sum.
