@@ -157,6 +157,21 @@ impl Drive {
         sum
     }
 
+    /// How many of the drive's outputs stand at an end of the 16 bits.
+    pub fn limited(&self, setting: &Setting) -> usize {
+        let mut player = self.player();
+        let mut out = vec![0; self.block];
+        let mut count = 0;
+        for index in 0..self.outputs / self.block {
+            self.block(index, &mut player, setting, &mut out);
+            count += out
+                .iter()
+                .filter(|x| [i16::MIN, i16::MAX].contains(x))
+                .count();
+        }
+        count
+    }
+
     /// A fresh voice of the proved player.
     pub fn player(&self) -> tone::Voice {
         tone::Voice::open(self.course.first(), TOP).expect("an accepted rate")

@@ -14,6 +14,12 @@ const OUTPUTS: usize = 16384;
 /// The longest block of a play.
 const LONG_BLOCK: usize = 4096;
 
+/// A block of fewer outputs than are made at a time.
+const SHORT_BLOCK: usize = 3;
+
+/// How many times more repetitions two drives get whose times should be equal.
+const LIMITED_ROUNDS: usize = 5;
+
 /// Calls of one repetition of plays without outputs.
 const EMPTY_PLAYS: usize = 1000;
 
@@ -53,6 +59,7 @@ fn main() -> ExitCode {
     let settings = [(10, Setting::new(10)), (3, Setting::new(3))];
     print_steady(&options, &settings, &kinds);
     print_fades(&options, &settings);
+    print_limited(&options, &settings);
     print_tests(&options, &settings);
     print_builder(&options, &settings[0].1);
     print_notes(&options);
@@ -101,16 +108,21 @@ fn ratio(player: f64, other: f64) -> String {
     format!("{:.2}", player / other)
 }
 
+/// The player on a drive.
+fn player<'a>(drive: Drive, setting: &'a Setting, name: &'a str) -> Competitor<'a> {
+    let mut out = vec![0; drive.block];
+    Competitor {
+        name,
+        work: Box::new(move || drive.play(&mut drive.player(), setting, &mut out)),
+    }
+}
+
 /// The player and the twin on a drive, after a comparison of both.
 fn players<'a>(drive: Drive, setting: &'a Setting) -> Vec<Competitor<'a>> {
     drive.compare(setting);
-    let mut out = vec![0; drive.block];
     let mut twin_out = vec![0; drive.block];
     vec![
-        Competitor {
-            name: "player",
-            work: Box::new(move || drive.play(&mut drive.player(), setting, &mut out)),
-        },
+        player(drive, setting, "player"),
         Competitor {
             name: "twin",
             work: Box::new(move || drive.play(&mut drive.twin(), setting, &mut twin_out)),
@@ -201,6 +213,61 @@ fn print_fades(options: &Options, settings: &[(usize, Setting)]) {
         }
     }
     print_table(options, &table);
+}
+
+/// A hum at full scale, and the same drive 20 dB lower, twice.
+fn print_limited(options: &Options, settings: &[(usize, Setting)]) {
+    heading(options, "Outputs that are limited: ns per output");
+    let mut table = Table::new(&[
+        "B, block",
+        "limited",
+        "loud",
+        "quiet",
+        "loud / quiet",
+        "quiet again / quiet",
+    ]);
+    let single_tap = (0, Setting::new(0));
+    for (decimation, setting) in settings.iter().chain([&single_tap]) {
+        let loud = setting.loud();
+        let (quiet, again) = (loud.lower(), loud.lower());
+        for block in [SHORT_BLOCK, RATE_BLOCK, LONG_BLOCK] {
+            let drive = Drive {
+                course: Course::Around(1.5),
+                block,
+                outputs: LONG_BLOCK,
+            };
+            let mut cells = vec![format!("{decimation}, {block}")];
+            cells.extend(limited_row(options, drive, [&loud, &quiet, &again]));
+            table.push(cells);
+        }
+    }
+    print_table(options, &table);
+}
+
+fn limited_row(options: &Options, drive: Drive, settings: [&Setting; 3]) -> Vec<String> {
+    let [loud, quiet, again] = settings;
+    drive.compare(loud);
+    drive.compare(quiet);
+    assert_eq!(drive.limited(quiet), 0, "quiet outputs are not limited");
+    let share = drive.limited(loud) as f64 / drive.outputs as f64;
+    let mut competitors = [
+        player(drive, loud, "loud"),
+        player(drive, quiet, "quiet"),
+        player(drive, again, "quiet again"),
+    ];
+    let times = shortest(
+        &mut competitors,
+        LIMITED_ROUNDS * options.rounds,
+        drive.outputs,
+    );
+    let fine_ratio = |place: usize| format!("{:.3}", times[place] / times[1]);
+    vec![
+        format!("{:.0} %", 100.0 * share),
+        figure(times[0]),
+        figure(times[1]),
+        fine_ratio(0),
+        fine_ratio(2),
+    ]
 }
 
 /// Plays without outputs: what the tests of book, store and voice cost.
@@ -296,6 +363,7 @@ fn print_notes(options: &Options) {
         format!("Blocks of {RATE_BLOCK}: a jump before each. Blocks of {LONG_BLOCK}: a glide over the block, so that the rate moves at every output."),
         format!("Other resamplers: the rate moves by a call for each {RATE_BLOCK} outputs, whatever the players' block. They work in floats."),
         "zita VResampler: 24 taps at rate 1, its filter made for the drive's middle rate. libsoxr: variable-rate mode, prepared for rates up to the octave's end. libsamplerate: the fastest sinc converter.".to_string(),
+        format!("Outputs that are limited: rate 1.5; the loud hum is cut at full scale, the quiet one is the same 20 dB lower; the shortest of {} repetitions of {LONG_BLOCK} outputs.", LIMITED_ROUNDS * options.rounds),
         format!("With fades: glides between 1.5 and 3, one in {CROSSING} outputs or in a block, if that is longer."),
         "Player and twin were compared on every drive here, every sample and voice word, before they were timed.".to_string(),
     ];

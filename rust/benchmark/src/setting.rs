@@ -23,6 +23,14 @@ const FADE: i32 = 64;
 /// 1 in a book.
 const ONE: f64 = 16384.0;
 
+/// The hum's first partial, and the noise beside it.
+const HUM: f64 = 9000.0;
+const NOISE: f64 = 500.0;
+
+/// Both, in the louder hum.
+const LOUD_HUM: f64 = 60000.0;
+const LOUD_NOISE: f64 = 60000.0;
+
 /// A book, a recording, and the store built from both.
 pub struct Setting {
     /// The book's words.
@@ -38,8 +46,21 @@ pub struct Setting {
 impl Setting {
     /// N = 12, M = 64, A = 40, F = 64, and B = `decimation`.
     pub fn new(decimation: usize) -> Setting {
-        let book = book(decimation);
-        let samples = recording();
+        Setting::with(book(decimation), recording(HUM, NOISE))
+    }
+
+    /// The same book with a louder hum, cut at full scale, so that many outputs are limited.
+    pub fn loud(&self) -> Setting {
+        Setting::with(self.book.clone(), recording(LOUD_HUM, LOUD_NOISE))
+    }
+
+    /// The same book and recording, 20 dB lower.
+    pub fn lower(&self) -> Setting {
+        let samples = self.samples.iter().map(|x| x / 10).collect();
+        Setting::with(self.book.clone(), samples)
+    }
+
+    fn with(book: Vec<i32>, samples: Vec<i16>) -> Setting {
         let floats = samples.iter().map(|x| f32::from(*x) / 32768.0).collect();
         let words = tone::store_words(samples.len(), TOP).expect("S and T are in range");
         let mut store = vec![0; words];
@@ -70,7 +91,11 @@ fn book(decimation: usize) -> Vec<i32> {
     words.extend((0..count).map(|place| times[at(place)]));
     words.extend((0..count).map(|place| times[at(place) + 1] - times[at(place)]));
     words.extend(half_band(LEVEL_REACH));
-    words.extend(half_band(decimation));
+    if decimation == 0 {
+        words.push(ONE as i32);
+    } else {
+        words.extend(half_band(decimation));
+    }
     words
 }
 
@@ -99,8 +124,8 @@ fn window(x: f64) -> f64 {
     }
 }
 
-/// A hum of some partials with a little noise.
-fn recording() -> Vec<i16> {
+/// A hum of some partials with noise, of these sizes, cut at full scale.
+fn recording(size: f64, noise_size: f64) -> Vec<i16> {
     let mut state = 0u32;
     let mut sample = |at: usize| {
         state = state.wrapping_mul(1_664_525).wrapping_add(1_013_904_223);
@@ -109,7 +134,7 @@ fn recording() -> Vec<i16> {
         let hum: f64 = (1..=5)
             .map(|k| (f64::from(k) * phase).sin() / f64::from(k))
             .sum();
-        (9000.0 * hum + 500.0 * noise) as i16
+        (size * hum + noise_size * noise) as i16
     };
     (0..SAMPLES).map(&mut sample).collect()
 }
