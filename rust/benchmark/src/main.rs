@@ -3,7 +3,7 @@
 use benchmark::drive::{Course, Drive, CROSSING, RATE_BLOCK};
 use benchmark::measure::{shortest, Competitor};
 use benchmark::others::{kinds, Kind, Resampler};
-use benchmark::setting::{Setting, SAMPLES, TOP};
+use benchmark::setting::{Setting, LOWER, SAMPLES, TOP};
 use benchmark::table::Table;
 use benchmark::{machine, twin};
 use std::process::ExitCode;
@@ -229,7 +229,7 @@ fn print_limited(options: &Options, settings: &[(usize, Setting)]) {
     let single_tap = (0, Setting::new(0));
     for (decimation, setting) in settings.iter().chain([&single_tap]) {
         let loud = setting.loud();
-        let (quiet, again) = (loud.lower(), loud.lower());
+        let (quiet, again) = (loud.divided(LOWER), loud.divided(LOWER));
         for block in [SHORT_BLOCK, RATE_BLOCK, LONG_BLOCK] {
             let drive = Drive {
                 course: Course::Around(1.5),

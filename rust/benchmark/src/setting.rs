@@ -1,6 +1,7 @@
 //! The book and the recording that all are measured with.
 
 use std::f64::consts::PI;
+use std::rc::Rc;
 
 /// Samples of the recording: the most that a store takes.
 pub const SAMPLES: usize = 1_048_576;
@@ -31,10 +32,14 @@ const NOISE: f64 = 500.0;
 const LOUD_HUM: f64 = 60000.0;
 const LOUD_NOISE: f64 = 60000.0;
 
+/// The divisor that takes off 20 dB.
+pub const LOWER: i16 = 10;
+
 /// A book, a recording, and the store built from both.
 pub struct Setting {
-    /// The book's words.
-    pub book: Vec<i32>,
+    /// The book's words; settings of one book share it, so that its place in memory
+    /// does not tell them apart.
+    pub book: Rc<[i32]>,
     /// The recording.
     pub samples: Vec<i16>,
     /// The recording as other resamplers take it.
@@ -46,21 +51,22 @@ pub struct Setting {
 impl Setting {
     /// N = 12, M = 64, A = 40, F = 64, and B = `decimation`.
     pub fn new(decimation: usize) -> Setting {
-        Setting::with(book(decimation), recording(HUM, NOISE))
+        Setting::with(book(decimation).into(), recording(HUM, NOISE))
     }
 
     /// The same book with a louder hum, cut at full scale, so that many outputs are limited.
     pub fn loud(&self) -> Setting {
-        Setting::with(self.book.clone(), recording(LOUD_HUM, LOUD_NOISE))
+        Setting::with(Rc::clone(&self.book), recording(LOUD_HUM, LOUD_NOISE))
     }
 
-    /// The same book and recording, 20 dB lower.
-    pub fn lower(&self) -> Setting {
-        let samples = self.samples.iter().map(|x| x / 10).collect();
-        Setting::with(self.book.clone(), samples)
+    /// The same book and recording, each sample divided: by [`LOWER`] it is 20 dB
+    /// lower, by 1 a copy.
+    pub fn divided(&self, divisor: i16) -> Setting {
+        let samples = self.samples.iter().map(|x| x / divisor).collect();
+        Setting::with(Rc::clone(&self.book), samples)
     }
 
-    fn with(book: Vec<i32>, samples: Vec<i16>) -> Setting {
+    fn with(book: Rc<[i32]>, samples: Vec<i16>) -> Setting {
         let floats = samples.iter().map(|x| f32::from(*x) / 32768.0).collect();
         let words = tone::store_words(samples.len(), TOP).expect("S and T are in range");
         let mut store = vec![0; words];

@@ -6,7 +6,7 @@
 //! ```
 
 use benchmark::drive::{Course, Drive};
-use benchmark::setting::Setting;
+use benchmark::setting::{Setting, LOWER};
 use std::process::ExitCode;
 
 const USAGE: &str = "usage: loudness loud|quiet B BLOCK";
@@ -20,12 +20,14 @@ fn asked() -> Option<(Setting, Drive)> {
     let [loudness, decimation, block] = arguments.as_slice() else {
         return None;
     };
-    let loud = Setting::new(decimation.parse().ok()?).loud();
-    let setting = match loudness.as_str() {
-        "loud" => loud,
-        "quiet" => loud.lower(),
+    let divisor = match loudness.as_str() {
+        "loud" => 1,
+        "quiet" => LOWER,
         _ => return None,
     };
+    // the same steps for both, so that all lies at the same addresses
+    let loud = Setting::new(decimation.parse().ok()?).loud();
+    let setting = loud.divided(divisor);
     let drive = Drive {
         course: Course::Around(1.5),
         block: block.parse().ok().filter(|block| *block > 0)?,
