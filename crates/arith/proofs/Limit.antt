@@ -11,7 +11,6 @@ use Rattle.arith.proofs.Linear.{linear, signed, lt-yes, lt-no}
 use Rattle.arith.proofs.Integers.{<ℤ-≤ℤ, abs-≤, ≤-abs, ≤ℤ-antisymm}
 
 module _ (lo hi x : ℤ) where
-  -- what is below lo becomes lo, what is above hi becomes hi ..
   pub limit-between : lo ≤ℤ hi → (lo ≤ℤ limit lo hi x) × (limit lo hi x ≤ℤ hi)
   unfolding limit
   limit-between h = go (ltZ x lo) (ltZ hi x) refl refl
@@ -21,6 +20,7 @@ module _ (lo hi x : ℤ) where
       go false true e f = (h, ≤ℤ-refl hi)
       go false false e f = (lt-no e, lt-no f)
 
+  -- what is below lo becomes lo, what is above hi becomes hi ..
   pub limit-low : x <ℤ lo → limit lo hi x ≡ lo
   unfolding limit
   limit-low h =
