@@ -30,7 +30,7 @@ pub &&-right : (s t : Bool) → s && t ≡ true → t ≡ true
 pub &&-both : {s t : Bool} → s ≡ true → t ≡ true → s && t ≡ true
 &&-both e f = rw (e, f)
 
-&&-true : (b : Bool) → b && true ≡ b
+pub &&-true : (b : Bool) → b && true ≡ b
 &&-true true = refl
 &&-true false = refl
 

@@ -23,7 +23,7 @@ use Rattle.levels.specs.Build.{buildNumber, builtStore, buildAnswer}
 use Rattle.player.specs.declared.Voice.{Voice}
 use Rattle.control.specs.declared.Order.the-variants.{Jump, Glide}
 use Rattle.player.specs.declared.Answer.{Answer}
-use Rattle.control.specs.Rate.{rateInRange, rateOf, askedLevel, advance}
+use Rattle.control.specs.Rate.{rateInRange, rateOf, octaveLevel, askedLevel, advance}
 use Rattle.control.specs.Moves.{freshControl, jumped, gliding, sought, glideRate, glideAfter, moveGlide, fadeTarget, pointPlan, fadeAfter, movePoint, moveOutput}
 use Rattle.control.specs.Orders.{ordered}
 use Rattle.arith.specs.Limit.{limit}
@@ -153,7 +153,7 @@ starredCases = caseA ∷ caseB ∷ caseC ∷ caseD ∷ caseE ∷ caseF₁ ∷ ca
 
 -- each case is as stated
 pub starred : map (λ c. c .found) starredCases ≡ map (λ c. c .stated) starredCases
-unfolding starredCases caseA caseB caseC caseD caseE caseF₁ caseF₂ caseG₁ caseG₂ caseH caseI caseJ caseHum nextState sampleOf stateAfter humSamples floorDiv near wordAt tabulate sum total sumAround eqZ every refuse _otherwise_ sizesOf differencesAt levelTapsAt decimationTapsAt bookLength impulseWord impulse difference levelTaps decimationTaps powerOfTwo sizesInRange wordsInRange coefficientsInRange differencesRight phaseSum tapSum sumsInRange bookNumber halfLength samplesInRange topInRange levelLength levelsBelow headerLength levelStart storeLength headerOf sampleCount topLevel storeLevel lengthsRight storeNumber firstLevel levelSum levelWord nextLevel levelOf levelsOf buildNumber builtStore buildAnswer ofBits rateInRange rateOf askedLevel advance freshControl jumped gliding sought glideRate glideAfter moveGlide fadeTarget pointPlan fadeAfter movePoint moveOutput limit limitedWord unit phaseAt offsetAt coefficient valueSum levelValue value point push pushTwo outputSum output nextVoice voiceAfter outputs glideCountWrong outputCountWrong positionWrong levelsWrong topWrong levelsNumber fadeWrong rateWrong glideWrong historyWrong lateNumber openNumber orderInputNumber orderNumber seekNumber playStateNumber playNumber zeroVoice freshVoice openAnswer ordered orderAnswer seekAnswer playAnswer
+unfolding starredCases caseA caseB caseC caseD caseE caseF₁ caseF₂ caseG₁ caseG₂ caseH caseI caseJ caseHum nextState sampleOf stateAfter humSamples floorDiv near wordAt tabulate sum total sumAround eqZ every refuse _otherwise_ sizesOf differencesAt levelTapsAt decimationTapsAt bookLength impulseWord impulse difference levelTaps decimationTaps powerOfTwo sizesInRange wordsInRange coefficientsInRange differencesRight phaseSum tapSum sumsInRange bookNumber halfLength samplesInRange topInRange levelLength levelsBelow headerLength levelStart storeLength headerOf sampleCount topLevel storeLevel lengthsRight storeNumber firstLevel levelSum levelWord nextLevel levelOf levelsOf buildNumber builtStore buildAnswer ofBits rateInRange rateOf octaveLevel askedLevel advance freshControl jumped gliding sought glideRate glideAfter moveGlide fadeTarget pointPlan fadeAfter movePoint moveOutput limit limitedWord unit phaseAt offsetAt coefficient valueSum levelValue value point push pushTwo outputSum output nextVoice voiceAfter outputs glideCountWrong outputCountWrong positionWrong levelsWrong topWrong levelsNumber fadeWrong rateWrong glideWrong historyWrong lateNumber openNumber orderInputNumber orderNumber seekNumber playStateNumber playNumber zeroVoice freshVoice openAnswer ordered orderAnswer seekAnswer playAnswer
 starred = refl
 
 -- ---- a play of more outputs than a program here can lend: 1048577 is refused 11, after 17; 1048576 is accepted
@@ -169,5 +169,5 @@ longPlays =
     }
 
 pub long-plays : longPlays .found ≡ longPlays .stated
-unfolding longPlays floorDiv near wordAt tabulate sum total sumAround eqZ every refuse _otherwise_ sizesOf differencesAt levelTapsAt decimationTapsAt bookLength impulseWord impulse difference levelTaps decimationTaps powerOfTwo sizesInRange wordsInRange coefficientsInRange differencesRight phaseSum tapSum sumsInRange bookNumber halfLength samplesInRange topInRange levelLength levelsBelow headerLength levelStart storeLength headerOf sampleCount topLevel storeLevel lengthsRight storeNumber firstLevel levelSum levelWord nextLevel levelOf levelsOf buildNumber builtStore buildAnswer ofBits rateInRange rateOf askedLevel advance freshControl jumped gliding sought glideRate glideAfter moveGlide fadeTarget pointPlan fadeAfter movePoint moveOutput limit limitedWord unit phaseAt offsetAt coefficient valueSum levelValue value point push pushTwo outputSum output nextVoice voiceAfter outputs glideCountWrong outputCountWrong positionWrong levelsWrong topWrong levelsNumber fadeWrong rateWrong glideWrong historyWrong lateNumber openNumber orderInputNumber orderNumber seekNumber playStateNumber playNumber zeroVoice freshVoice openAnswer ordered orderAnswer seekAnswer playAnswer
+unfolding longPlays floorDiv near wordAt tabulate sum total sumAround eqZ every refuse _otherwise_ sizesOf differencesAt levelTapsAt decimationTapsAt bookLength impulseWord impulse difference levelTaps decimationTaps powerOfTwo sizesInRange wordsInRange coefficientsInRange differencesRight phaseSum tapSum sumsInRange bookNumber halfLength samplesInRange topInRange levelLength levelsBelow headerLength levelStart storeLength headerOf sampleCount topLevel storeLevel lengthsRight storeNumber firstLevel levelSum levelWord nextLevel levelOf levelsOf buildNumber builtStore buildAnswer ofBits rateInRange rateOf octaveLevel askedLevel advance freshControl jumped gliding sought glideRate glideAfter moveGlide fadeTarget pointPlan fadeAfter movePoint moveOutput limit limitedWord unit phaseAt offsetAt coefficient valueSum levelValue value point push pushTwo outputSum output nextVoice voiceAfter outputs glideCountWrong outputCountWrong positionWrong levelsWrong topWrong levelsNumber fadeWrong rateWrong glideWrong historyWrong lateNumber openNumber orderInputNumber orderNumber seekNumber playStateNumber playNumber zeroVoice freshVoice openAnswer ordered orderAnswer seekAnswer playAnswer
 long-plays = refl

@@ -18,7 +18,8 @@ use Rattle.control.specs.declared.Fade.{Fade}
 use Rattle.control.specs.declared.Control.{Control}
 use Rattle.control.specs.Rate.{advance}
 use Rattle.control.specs.Moves.{glideAfter, noFade, glideRate, moveGlide, fadeTarget, pointPlan, fadeAfter, movePoint, moveOutput}
-use Rattle.control.proofs.Rates.{rate-low, rate-high, asked-≤}
+use Rattle.control.proofs.Rates.{rate-low, rate-high}
+use Rattle.control.proofs.Bands.{asked-≤}
 use Rattle.control.specs.Valid.{GlideValid, Valid}
 
 -- with another rate in range, glide and position
@@ -134,7 +135,7 @@ module _ {F : ℕ} {c : Control} (s : Valid F c) where
 
   pub plan-new : pointPlan c .new ≤ c .top
   unfolding pointPlan fadeTarget
-  plan-new = ≤-either (eqb (c .fade .step) 0) (asked-≤ (c .rate) (c .top) (s .rate-high)) (s .to-high)
+  plan-new = ≤-either (eqb (c .fade .step) 0) (asked-≤ (c .fade .from) (c .rate) (c .top) (s .from-high) (s .rate-high)) (s .to-high)
 
   pub plan-step : pointPlan c .step ≤ F
   unfolding pointPlan

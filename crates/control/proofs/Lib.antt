@@ -1,2 +1,3 @@
 pub mod Rates
+pub mod Bands
 pub mod Kept

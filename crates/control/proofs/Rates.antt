@@ -1,5 +1,5 @@
 -- A rate of an f32 is whole in steps of 2^-27 and lies in 2^23..2^(28 + top) − 1. Scaled in an f64 it is exact, and its cast loses nothing.
--- The level that it asks for is at most the top one.
+-- The level of its octave is at most the top one.
 -- Assumes nothing.
 use mathlib.Core.Path.{_≡_, refl, sym, ap, _∙_}
 use mathlib.Core.Bool.{Bool, true, false, not, _&&_, _||_, cond, true≢false}
@@ -14,7 +14,7 @@ use lib.Ieee.Fits.{down-pos, and-l, and-r, and-i, fits-widens}
 use lib.Ieee.Exact.{HasValue, round-exact}
 use borrow.Author.Tests.{eqb-true, leb-true, ltb-true, ltb-false, leb-false, le-leb, lt-ltb, eq-eqb, ne-eqb}
 use Rattle.arith.proofs.Tests.{&&-left, &&-right}
-use Rattle.control.specs.Rate.{rateInRange, rateOf, askedLevel}
+use Rattle.control.specs.Rate.{rateInRange, rateOf, octaveLevel}
 
 -- ---- the comparisons are the tests of `rateInRange`
 le-is : (a b : ℕ) → (ltb a b || (eqb a b && true)) ≡ leb a b
@@ -149,15 +149,15 @@ number (fin s m e) h = tt
 pub not-nan : (r : Float) → T (fits binary32 r) → rateInRange r 4 ≡ true → T (fits binary64 r && not (isNan r))
 not-nan r f h = and-i (fits binary64 r) (not (isNan r)) (fits-widens r f) (number r h)
 
--- ---- the asked level
+-- ---- the level of a rate's octave
 
 -- a number between two powers of two
 exponent-below : (i j : ℕ) {R : ℕ} → 2 ^ i ≤ R → R < 2 ^ j → i < j
 exponent-below i j l u = lt-of-not-le (λ (g : j ≤ i). omega (arith, pow-mono g))
 
-pub asked-≤ : (R top : ℕ) → R < 2 ^ (28 + top) → askedLevel R ≤ top
-unfolding askedLevel
-asked-≤ R top u = go (ltb R (2 ^ 28)) (ltb R (2 ^ 29)) (ltb R (2 ^ 30)) (ltb R (2 ^ 31)) refl refl refl refl
+pub octave-≤ : (R top : ℕ) → R < 2 ^ (28 + top) → octaveLevel R ≤ top
+unfolding octaveLevel
+octave-≤ R top u = go (ltb R (2 ^ 28)) (ltb R (2 ^ 29)) (ltb R (2 ^ 30)) (ltb R (2 ^ 31)) refl refl refl refl
   where
     go : (a b c d : Bool) → ltb R (2 ^ 28) ≡ a → ltb R (2 ^ 29) ≡ b → ltb R (2 ^ 30) ≡ c → ltb R (2 ^ 31) ≡ d → cond a 0 (cond b 1 (cond c 2 (cond d 3 4))) ≤ top
     go true b c d e f g h = omega arith
@@ -165,3 +165,14 @@ asked-≤ R top u = go (ltb R (2 ^ 28)) (ltb R (2 ^ 29)) (ltb R (2 ^ 30)) (ltb R
     go false false true d e f g h = omega (arith, exponent-below 29 (28 + top) (ltb-false R (2 ^ 29) f) u)
     go false false false true e f g h = omega (arith, exponent-below 30 (28 + top) (ltb-false R (2 ^ 30) g) u)
     go false false false false e f g h = omega (arith, exponent-below 31 (28 + top) (ltb-false R (2 ^ 31) h) u)
+
+pub octave-high : (R : ℕ) → octaveLevel R < 4 → R < 2 ^ (28 + octaveLevel R)
+unfolding octaveLevel
+octave-high R = go (ltb R (2 ^ 28)) (ltb R (2 ^ 29)) (ltb R (2 ^ 30)) (ltb R (2 ^ 31)) refl refl refl refl
+  where
+    go : (a b c d : Bool) → ltb R (2 ^ 28) ≡ a → ltb R (2 ^ 29) ≡ b → ltb R (2 ^ 30) ≡ c → ltb R (2 ^ 31) ≡ d → cond a 0 (cond b 1 (cond c 2 (cond d 3 4))) < 4 → R < 2 ^ (28 + cond a 0 (cond b 1 (cond c 2 (cond d 3 4))))
+    go true b c d e f g h = λ k. omega (arith, ltb-true R (2 ^ 28) e)
+    go false true c d e f g h = λ k. omega (arith, ltb-true R (2 ^ 29) f)
+    go false false true d e f g h = λ k. omega (arith, ltb-true R (2 ^ 30) g)
+    go false false false true e f g h = λ k. omega (arith, ltb-true R (2 ^ 31) h)
+    go false false false false e f g h = λ k. absurd (omega arith)

@@ -9,7 +9,7 @@ use Rattle.control.specs.declared.Glide.{Glide}
 use Rattle.control.specs.declared.Fade.{Fade}
 use Rattle.control.specs.declared.Control.{Control}
 use Rattle.control.specs.declared.Plan.{Plan}
-use Rattle.control.specs.Rate.{askedLevel, advance}
+use Rattle.control.specs.Rate.{octaveLevel, askedLevel, advance}
 
 -- ---- glide and fade at rest
 
@@ -21,9 +21,9 @@ noFade level = record { from = level; to = level; step = 0 }
 
 -- ---- opening, orders and seek: the fields that each rule names
 
--- a fresh voice's control
+-- a fresh voice's control: it opens at the level of its rate's octave
 unfoldable pub freshControl : ℕ → ℕ → Control
-freshControl T R = record { top = T; fade = noFade (askedLevel R); rate = R; glide = noGlide; position = 0 }
+freshControl T R = record { top = T; fade = noFade (octaveLevel R); rate = R; glide = noGlide; position = 0 }
 
 -- a jump sets R, and sets c, j, R0 and R1 to 0
 unfoldable pub jumped : Control → ℕ → Control
@@ -62,10 +62,10 @@ moveGlide c =
 
 -- ---- the fade
 
--- where a point's fade goes: on to its new level if one runs, else to the asked level. A rate change during a fade is looked at when it
--- has ended.
+-- where a point's fade goes: on to its new level if one runs, else to the level asked from the current one. A rate change during a fade is
+-- looked at when it has ended, from the level that has become current.
 unfoldable pub fadeTarget : Control → ℕ
-fadeTarget c = cond (eqb (c .fade .step) 0) (askedLevel (c .rate)) (c .fade .to)
+fadeTarget c = cond (eqb (c .fade .step) 0) (askedLevel (c .fade .from) (c .rate)) (c .fade .to)
 
 -- a point's plan: a fade to the asked level begins where none runs and that level differs from the current one; in a fade i grows by 1
 unfoldable pub pointPlan : Control → Plan

@@ -71,19 +71,20 @@ pub fn glide_moved(c: Control) -> Control
     }
 }
 
-// The level that a point's fade goes to: on to its own where one runs, else to the asked one.
+// The level that a point's fade goes to: on to its own where one runs, else to the one asked from the current level.
 fn fade_target(c: Control) -> u32
+    requires { ⌜ c .fade .from ≤ 4 ⌝ }
     ensures { λ r. ⌜ r ≡ fadeTarget c ⌝ }
 {
     if c.fade.step == 0 {
-        return asked_level(c.rate);
+        return asked_level(c.fade.from, c.rate);
     }
     c.fade.to
 }
 
 // What the next point is made from.
 pub fn point_plan(c: Control) -> Plan
-    requires { ⌜ c .fade .step < 2 ^ 31 ⌝ }
+    requires { ⌜ (c .fade .from ≤ 4) × (c .fade .step < 2 ^ 31) ⌝ }
     ensures { λ r. ⌜ r ≡ pointPlan c ⌝ }
 {
     let from = c.fade.from;
@@ -124,7 +125,7 @@ fn fade_after(p: Plan, fade: u32) -> Fade
 
 // After a point: the fade moved on, and P advanced.
 pub fn point_moved(c: Control, fade: u32) -> Control
-    requires { ⌜ c .fade .step < 2 ^ 31 ⌝ }
+    requires { ⌜ (c .fade .from ≤ 4) × (c .fade .step < 2 ^ 31) ⌝ }
     ensures { λ r. ⌜ r ≡ movePoint fade c ⌝ }
 {
     let next = fade_after(point_plan(c), fade);

@@ -1,11 +1,12 @@
-// Rates: an f32 from 1/16 up to below 2^(T+1), and its whole number R of 2^-27 steps; the asked level; the position's advance.
+// Rates: an f32 from 1/16 up to below 2^(T+1), and its whole number R of 2^-27 steps; the asked level and its band; the position's advance.
 
 ghost use mathlib.Core.Bool.{true, false};
 ghost use mathlib.Core.Path.{_≡_};
 ghost use Prim.Native.Nat.{_+_, _≤_};
 ghost use lib.IntN.{pos};
 ghost use lib.Ieee.{fin};
-ghost use Rattle.control.specs.Rate.{rateInRange, rateOf, askedLevel, advance};
+ghost use Rattle.control.specs.Rate.{rateInRange, rateOf, octaveLevel, askedLevel, advance};
+ghost use Rattle.control.specs.Inner.{bandOf, inBand};
 
 // 2^(top + 1)
 fn rate_end(top: u32) -> f32
@@ -43,8 +44,8 @@ pub fn scaled_rate(r: f32) -> u64
 }
 
 // max(0, floor(log2 r)), of R = r × 2^27
-pub fn asked_level(rate: u64) -> u32
-    ensures { λ r. ⌜ r ≡ askedLevel rate ⌝ }
+pub fn octave_level(rate: u64) -> u32
+    ensures { λ r. ⌜ r ≡ octaveLevel rate ⌝ }
 {
     if rate < 268435456 {
         return 0;
@@ -59,6 +60,47 @@ pub fn asked_level(rate: u64) -> u32
         return 3;
     }
     4
+}
+
+// The rates at which a level stays: from `low` up to below `high`.
+pub struct Band {
+    pub low: u64,
+    pub high: u64,
+}
+
+// From 15/16 of the octave's start, and from 0 at level 0, up to below the next octave.
+pub fn band_of(level: u32) -> Band
+    requires { ⌜ level ≤ 4 ⌝ }
+    ensures { λ r. ⌜ r ≡ bandOf level ⌝ }
+{
+    if level == 0 {
+        return Band {
+            low: 0,
+            high: 268435456,
+        };
+    }
+    let sixteenth = 1u64 << (23 + level); // of the octave's start
+    Band {
+        low: 15 * sixteenth,
+        high: 32 * sixteenth,
+    }
+}
+
+pub fn in_band(b: Band, rate: u64) -> bool
+    ensures { λ r. ⌜ r ≡ inBand b rate ⌝ }
+{
+    b.low <= rate && rate < b.high
+}
+
+// The level that a rate asks for from the current one.
+pub(crate) fn asked_level(current: u32, rate: u64) -> u32
+    requires { ⌜ current ≤ 4 ⌝ }
+    ensures { λ r. ⌜ r ≡ askedLevel current rate ⌝ }
+{
+    if in_band(band_of(current), rate) {
+        return current;
+    }
+    octave_level(rate)
 }
 
 // One point on, stopping at 2^60.

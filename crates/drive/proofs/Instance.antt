@@ -23,7 +23,7 @@ use Rattle.levels.specs.Levels.{firstLevel, levelOf, levelsOf}
 use Rattle.levels.specs.Build.{builtStore}
 use Rattle.control.specs.declared.Card.{Card}
 use Rattle.control.specs.declared.Order.the-variants.{Jump}
-use Rattle.control.specs.Rate.{rateInRange, rateOf, askedLevel, advance}
+use Rattle.control.specs.Rate.{rateInRange, rateOf, octaveLevel, askedLevel, advance}
 use Rattle.control.specs.Moves.{freshControl, jumped, sought, glideAfter, moveGlide, fadeTarget, pointPlan, fadeAfter, movePoint, moveOutput}
 use Rattle.control.specs.Orders.{ordered}
 use Rattle.arith.specs.Limit.{limit}
@@ -72,5 +72,5 @@ conclusion = demand3 book recording (pos 9 ∷ negsuc 8 ∷ pos 9 ∷ []) card s
 
 -- and the samples that it speaks of
 pub handed-out : handedOut book store (openAnswer card .voice) calls ≡ pos 500 ∷ pos 1500 ∷ pos 1000 ∷ pos 0 ∷ pos 500 ∷ []
-unfolding floorDiv near wordAt tabulate sum total sumAround eqZ every refuse _otherwise_ sizesOf differencesAt levelTapsAt decimationTapsAt bookLength impulseWord impulse difference levelTaps decimationTaps powerOfTwo sizesInRange wordsInRange coefficientsInRange differencesRight phaseSum tapSum sumsInRange bookNumber halfLength samplesInRange topInRange levelLength levelsBelow headerLength levelStart storeLength headerOf sampleCount topLevel storeLevel lengthsRight storeNumber firstLevel levelSum levelWord nextLevel levelOf levelsOf builtStore ofBits rateInRange rateOf askedLevel advance freshControl jumped sought glideAfter moveGlide fadeTarget pointPlan fadeAfter movePoint moveOutput limit limitedWord unit phaseAt offsetAt coefficient valueSum levelValue value point push pushTwo outputSum output nextVoice voiceAfter outputs outputCountWrong positionWrong levelsWrong topWrong levelsNumber fadeWrong rateWrong glideWrong historyWrong lateNumber openNumber orderInputNumber orderNumber seekNumber playStateNumber playNumber zeroVoice freshVoice openAnswer ordered orderAnswer seekAnswer playAnswer callVoice callSamples handedOut
+unfolding floorDiv near wordAt tabulate sum total sumAround eqZ every refuse _otherwise_ sizesOf differencesAt levelTapsAt decimationTapsAt bookLength impulseWord impulse difference levelTaps decimationTaps powerOfTwo sizesInRange wordsInRange coefficientsInRange differencesRight phaseSum tapSum sumsInRange bookNumber halfLength samplesInRange topInRange levelLength levelsBelow headerLength levelStart storeLength headerOf sampleCount topLevel storeLevel lengthsRight storeNumber firstLevel levelSum levelWord nextLevel levelOf levelsOf builtStore ofBits rateInRange rateOf octaveLevel askedLevel advance freshControl jumped sought glideAfter moveGlide fadeTarget pointPlan fadeAfter movePoint moveOutput limit limitedWord unit phaseAt offsetAt coefficient valueSum levelValue value point push pushTwo outputSum output nextVoice voiceAfter outputs outputCountWrong positionWrong levelsWrong topWrong levelsNumber fadeWrong rateWrong glideWrong historyWrong lateNumber openNumber orderInputNumber orderNumber seekNumber playStateNumber playNumber zeroVoice freshVoice openAnswer ordered orderAnswer seekAnswer playAnswer callVoice callSamples handedOut
 handed-out = refl

@@ -15,7 +15,7 @@ use control::Fade;
 use control::Glide;
 use control::Order;
 use control::moves::no_glide;
-use control::rate::asked_level;
+use control::rate::octave_level;
 use control::rate::scaled_rate;
 use refusals::open_number;
 use refusals::order_number;
@@ -99,7 +99,7 @@ impl Voice {
         let rate = scaled_rate(card.rate);
         Answer {
             number: 0,
-            voice: resting(card.top, rate, asked_level(rate)),
+            voice: resting(card.top, rate, octave_level(rate)),
         }
     }
 

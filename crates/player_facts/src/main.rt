@@ -1,5 +1,5 @@
-// Facts of the player that documents 01 and 02 state and do not star: glides, limits, and every number of every call, with the first of two
-// that hold at once. A line each: what is called, the number, and whether the voice came back as it was.
+// Facts of the player that documents 01 and 02 state and do not star: glides, limits, the levels along a glide and the ends of their bands,
+// and every number of every call, with the first of two that hold at once. Of a number, a line each: what is called, the number, and whether the voice came back as it was.
 use control::Card;
 use control::Order;
 use player::Answer;
@@ -15,6 +15,9 @@ const SLOW: [i32; 11] = [2, 1, 0, 0, 4, 0, 16384, 16384, -16384, 16384, 16384];
 
 // A silent store of 3 samples with top level 1: S, T, two lengths, 3 + 2 words.
 const SILENT: [i32; 9] = [3, 1, 3, 2, 0, 0, 0, 0, 0];
+
+// The same with top level 4: S, T, five lengths, 3 + 2 + 1 + 1 + 1 words.
+const SILENT_4: [i32; 15] = [3, 4, 3, 2, 1, 1, 1, 0, 0, 0, 0, 0, 0, 0, 0];
 
 // A position past the last, 2^60.
 const FAR: u64 = 1152921504606846977;
@@ -93,6 +96,75 @@ fn glide() {
     let g = c.glide;
     print::next_number(g.count);
     print::end_line();
+}
+
+// The rate of a voice, and its current level: in a fade the old one.
+fn rate_and_level(v: Voice) {
+    let c = v.control;
+    let f = c.fade;
+    print::next_decimal(c.rate);
+    print::next_number(f.from);
+}
+
+// One output more, with its rate and the level after it.
+fn level_after(v: Voice, book: &[i32]) -> Voice {
+    let mut out = [0i16; 1];
+    let w = v.play(book, &SILENT_4, &mut out).voice;
+    rate_and_level(w);
+    w
+}
+
+fn four_levels(v: Voice, book: &[i32]) -> Voice {
+    level_after(
+        level_after(level_after(level_after(v, book), book), book),
+        book,
+    )
+}
+
+// A glide of 8 outputs to a rate.
+fn glide_levels(label: &[u8], v: Voice, target: f32, book: &[i32]) -> Voice {
+    io::write_all(1, label);
+    let g = v.order(Order::Glide { target, count: 8 }).voice;
+    let w = four_levels(four_levels(g, book), book);
+    print::end_line();
+    w
+}
+
+// A voice with top level 4.
+fn high(rate: f32) -> Voice {
+    Voice::open(Card { rate, top: 4 }).voice
+}
+
+// From 2 down past 1.875 to 1.75 and up again, with a fade of one point and of four.
+fn glides_past_the_band() {
+    let low = glide_levels(b"down", high(2.0), 1.75, &K);
+    glide_levels(b"up", low, 2.0, &K);
+    let slow = glide_levels(b"down, F 4", high(2.0), 1.75, &SLOW);
+    glide_levels(b"up, F 4", slow, 2.0, &SLOW);
+}
+
+// One output after a jump.
+fn level_at(v: Voice, rate: f32) -> Voice {
+    level_after(v.order(Order::Jump(rate)).voice, &K)
+}
+
+// A level's band: opened at its end, and from the level itself to that end, just below it and back, and to the lowest rate.
+fn band(label: &[u8], octave: f32, end: f32, below: f32) {
+    let v = high(octave);
+    io::write_all(1, label);
+    rate_and_level(high(end));
+    rate_and_level(v);
+    level_at(level_at(level_at(v, end), below), end);
+    level_at(v, 0.0625);
+    print::end_line();
+}
+
+// The bands of levels 1 to 4: down to 15/16 of the octave.
+fn bands() {
+    band(b"band of 1", 2.0, 1.875, 1.8749999);
+    band(b"band of 2", 4.0, 3.75, 3.7499998);
+    band(b"band of 3", 8.0, 7.5, 7.4999995);
+    band(b"band of 4", 16.0, 15.0, 14.999999);
 }
 
 fn jumped(label: &[u8], v: Voice, rate: f32) {
@@ -323,6 +395,8 @@ fn main() {
     limits();
     no_rates();
     glide();
+    glides_past_the_band();
+    bands();
     orders();
     seeks();
     state(b"fresh", fresh());

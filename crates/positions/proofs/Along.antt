@@ -1,6 +1,7 @@
 -- What holds along a run of outputs that need no fade: the positions of its points are written, and the control is the one after them.
 -- Assumes nothing.
 use mathlib.Core.Path.{_≡_, refl, sym, ap, subst, _∙_}
+use mathlib.Core.Bool.{true}
 use mathlib.Core.List.{List}
 use Prim.Native.Nat.{ℕ, suc, _+_, _-_, _*_, _^_, _≤_, _<_}
 use native.Mathlib.Nat.{le-trans, add-mul, mul-le-mul-left}
@@ -12,12 +13,14 @@ use lib.Seq.{getD-set-same, getD-set-other}
 use Rattle.control.specs.declared.Control.{Control}
 use Rattle.control.specs.Rate.{askedLevel, advance}
 use Rattle.control.specs.Moves.{noFade, moveGlide, movePoint, moveOutput}
+use Rattle.control.specs.Inner.{bandOf, inBand}
 use Rattle.control.specs.Valid.{Valid}
 use Rattle.positions.specs.Runs.{controlAfter, firstPlan, secondPlan, steadyPlan}
 use Rattle.positions.specs.Inner.{leftOf, rateAt, glideAt, controlAt}
+use Rattle.control.proofs.Bands.{band-high, band-stays}
 use Rattle.control.proofs.Kept.{moveGlide-valid, movePoint-valid}
 use Rattle.positions.proofs.Glides.{control-fits, rate-at-high, control-next}
-use Rattle.positions.proofs.Steady.{moveGlide-fade, moveGlide-position, asked-rate, steady-plan, steady-moved, advance-high, advance-low, advance-below}
+use Rattle.positions.proofs.Steady.{moveGlide-fade, moveGlide-position, steady-plan, steady-moved, advance-high, advance-low, advance-below}
 
 -- the positions ps of the points of i outputs from control c, and the control d after them
 pub record Along (F : ℕ) (c : Control) (ps : List ℕ) (d : Control) (i : ℕ) : Type 0 where
@@ -45,10 +48,7 @@ along-none F c ps s rests = record {
 
 -- ---- one output more
 
-octave : {R : ℕ} (T : ℕ) → T ≤ 4 → R < 2 ^ (28 + T) → R < 2 ^ 32
-octave T h l = let p : 2 ^ (28 + T) ≤ 2 ^ 32 = pow-mono {i = 28 + T} {j = 32} (omega arith) in le-trans l p
-
-module _ {F : ℕ} {c d : Control} {ps : List ℕ} {i : ℕ} (a : Along F c ps d i) (asked : askedLevel (moveGlide d .rate) ≡ c .fade .from) (F-low : 1 ≤ F) where
+module _ {F : ℕ} {c d : Control} {ps : List ℕ} {i : ℕ} (a : Along F c ps d i) (stays : inBand (bandOf (c .fade .from)) (moveGlide d .rate) ≡ true) (F-low : 1 ≤ F) where
   abbrev l : ℕ
   l = c .fade .from
 
@@ -70,9 +70,12 @@ module _ {F : ℕ} {c d : Control} {ps : List ℕ} {i : ℕ} (a : Along F c ps d
   one-from : one .fade .from ≡ l
   one-from = ap (λ f. f .from) (moveGlide-fade d) ∙ a .level
 
+  asked : askedLevel l R ≡ l
+  asked = band-stays l R (omega (arith, one-from, one-valid .from-high, one-valid .top-high)) stays
+
   -- a point advances by less than a word of the level
   rate-high : R ≤ 2 ^ (28 + l)
-  rate-high = asked-rate R l (octave (one .top) (one-valid .top-high) (one-valid .rate-high)) asked
+  rate-high = omega (arith, band-high l R stays)
 
   two-is : two ≡ record { top = one .top; fade = noFade l; rate = R; glide = one .glide; position = advance (one .position) R }
   two-is = steady-moved one l one-rests one-from asked F F-low
@@ -86,8 +89,8 @@ module _ {F : ℕ} {c d : Control} {ps : List ℕ} {i : ℕ} (a : Along F c ps d
   two-rate : two .rate ≡ R
   two-rate = ap (λ x. x .rate) two-is
 
-  two-asked : askedLevel (two .rate) ≡ l
-  two-asked = ap askedLevel two-rate ∙ asked
+  two-asked : askedLevel l (two .rate) ≡ l
+  two-asked = ap (askedLevel l) two-rate ∙ asked
 
   abbrev three : Control
   three = movePoint F two
@@ -171,21 +174,21 @@ module _ {F : ℕ} {c d : Control} {ps : List ℕ} {i : ℕ} (a : Along F c ps d
     }
 
 -- the same, of what a function gave: the control after the glide's move, the position of the second point, and the control at the end
-pub along-next : {F : ℕ} {c d x z : Control} {ps : List ℕ} {i P : ℕ} → Along F c ps d i → x ≡ moveGlide d → askedLevel (x .rate) ≡ c .fade .from
+pub along-next : {F : ℕ} {c d x z : Control} {ps : List ℕ} {i P : ℕ} → Along F c ps d i → x ≡ moveGlide d → inBand (bandOf (c .fade .from)) (x .rate) ≡ true
     → P ≡ advance (x .position) (x .rate)
     → z ≡ record { top = x .top; fade = noFade (c .fade .from); rate = x .rate; glide = x .glide; position = advance P (x .rate) }
     → 1 ≤ F → 2 * i + 1 < length ps → Along F c (set (set ps (2 * i) (x .position)) (2 * i + 1) P) z (suc i)
-along-next {F} {c} {d} {z = z} {ps = ps} {i = i} a ex asked eP ez h room =
-    let asked′ : askedLevel (moveGlide d .rate) ≡ c .fade .from = ap (λ w. askedLevel (w .rate)) (sym ex) ∙ asked in
+along-next {F} {c} {d} {z = z} {ps = ps} {i = i} a ex stays eP ez h room =
+    let stays′ : inBand (bandOf (c .fade .from)) (moveGlide d .rate) ≡ true = ap (λ w. inBand (bandOf (c .fade .from)) (w .rate)) (sym ex) ∙ stays in
     let o : Control = moveGlide d in
     let with : ℕ → List ℕ = λ q. set (set ps (2 * i) (o .position)) (2 * i + 1) q in
     let at : ℕ → Control = λ q. record { top = o .top; fade = noFade (c .fade .from); rate = o .rate; glide = o .glide; position = q } in
     let P₂ : ℕ = advance (o .position) (o .rate) in
-    let second : two a asked′ h .position ≡ P₂ = ap (λ w. w .position) (two-is a asked′ h) in
-    let last : three a asked′ h ≡ at (advance P₂ (o .rate)) =
-    three-is a asked′ h ∙ ap (λ w. record { top = w .top; fade = noFade (c .fade .from); rate = w .rate; glide = w .glide; position = advance (w .position) (w .rate) }) (two-is a asked′ h) in
+    let second : two a stays′ h .position ≡ P₂ = ap (λ w. w .position) (two-is a stays′ h) in
+    let last : three a stays′ h ≡ at (advance P₂ (o .rate)) =
+    three-is a stays′ h ∙ ap (λ w. record { top = w .top; fade = noFade (c .fade .from); rate = w .rate; glide = w .glide; position = advance (w .position) (w .rate) }) (two-is a stays′ h) in
     rw (ez, eP, ex)
-    (subst (λ q. Along F c (with q) (at (advance P₂ (o .rate))) (suc i)) second (subst (λ w. Along F c (with (two a asked′ h .position)) w (suc i)) last (along-more a asked′ h room)))
+    (subst (λ q. Along F c (with q) (at (advance P₂ (o .rate))) (suc i)) second (subst (λ w. Along F c (with (two a stays′ h .position)) w (suc i)) last (along-more a stays′ h room)))
 
 -- ---- one output more of a run whose rates are known
 
@@ -203,11 +206,11 @@ module _ {F : ℕ} {c : Control} {ps : List ℕ} {i R N : ℕ} (P : ℕ) (a : Al
       let r : rateAt c (suc i) ≤ 2 ^ 32 = rate-at-high (control-fits s) (suc i) left in
       omega (arith, a .high, h, r, N-is, near, position-is, inside)
 
-  pub along-run : askedLevel N ≡ c .fade .from → 1 ≤ F → 2 * i + 1 < length ps → Along F c (set (set ps (2 * i) P) (2 * i + 1) (P + N)) (controlAt c (suc i) N (P + 2 * N)) (suc i)
+  pub along-run : inBand (bandOf (c .fade .from)) N ≡ true → 1 ≤ F → 2 * i + 1 < length ps → Along F c (set (set ps (2 * i) P) (2 * i + 1) (P + N)) (controlAt c (suc i) N (P + 2 * N)) (suc i)
   unfolding controlAt
-  along-run asked F-low room =
+  along-run stays F-low room =
       let x : Control = record { top = c .top; fade = noFade (c .fade .from); rate = N; glide = glideAt (c .glide) (suc i); position = P } in
       let ex : x ≡ moveGlide (controlAt c i R P) = ap (λ r. record { top = c .top; fade = noFade (c .fade .from); rate = r; glide = glideAt (c .glide) (suc i); position = P }) N-is ∙ control-next c i R P left still in
       let one : P + N ≡ advance P N = sym (advance-below P N (omega (arith, run-high))) in
       let two : P + 2 * N ≡ advance (P + N) N = sym (advance-below (P + N) N (omega (arith, run-high)) ∙ omega arith) in
-      along-next a ex asked one (ap (λ q. record { top = c .top; fade = noFade (c .fade .from); rate = N; glide = glideAt (c .glide) (suc i); position = q }) two) F-low room
+      along-next a ex stays one (ap (λ q. record { top = c .top; fade = noFade (c .fade .from); rate = N; glide = glideAt (c .glide) (suc i); position = q }) two) F-low room

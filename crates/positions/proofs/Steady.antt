@@ -1,11 +1,11 @@
 -- The laws of points without a fade: the plan is the current level at P, and only P moves. Assumes nothing.
-use mathlib.Core.Path.{_≡_, refl, sym}
+use mathlib.Core.Path.{_≡_, refl}
 use mathlib.Core.Bool.{Bool, true, false, cond}
 use Prim.Native.Nat.{ℕ, _+_, _^_, _≤_, _<_}
 use native.Mathlib.Nat.{min-le-left, le-min}
 use native.Mathlib.Omega.{arith}
-use borrow.Author.Tests.{ltb-true, eq-eqb, ne-eqb}
-use lib.Dec.{eqb, ltb}
+use borrow.Author.Tests.{eq-eqb, ne-eqb}
+use lib.Dec.{eqb}
 use Rattle.control.specs.declared.Control.{Control}
 use Rattle.control.specs.Rate.{askedLevel, advance}
 use Rattle.control.specs.Moves.{noFade, moveGlide, fadeTarget, pointPlan, fadeAfter, movePoint}
@@ -25,25 +25,12 @@ pub moveGlide-position : (c : Control) → moveGlide c .position ≡ c .position
 unfolding moveGlide
 moveGlide-position c = either (λ d. d .position) (eqb (c .glide .count) 0) c _ refl
 
--- ---- a rate stays below the octave of its level
-
-pub asked-rate : (R l : ℕ) → R < 2 ^ 32 → askedLevel R ≡ l → R ≤ 2 ^ (28 + l)
-unfolding askedLevel
-asked-rate R l high e = rw (sym e) (go (ltb R (2 ^ 28)) (ltb R (2 ^ 29)) (ltb R (2 ^ 30)) (ltb R (2 ^ 31)) refl refl refl refl)
-  where
-    go : (a b c d : Bool) → ltb R (2 ^ 28) ≡ a → ltb R (2 ^ 29) ≡ b → ltb R (2 ^ 30) ≡ c → ltb R (2 ^ 31) ≡ d → R ≤ 2 ^ (28 + cond a 0 (cond b 1 (cond c 2 (cond d 3 4))))
-    go true b c d e f g h = omega (arith, ltb-true R (2 ^ 28) e)
-    go false true c d e f g h = omega (arith, ltb-true R (2 ^ 29) f)
-    go false false true d e f g h = omega (arith, ltb-true R (2 ^ 30) g)
-    go false false false true e f g h = omega (arith, ltb-true R (2 ^ 31) h)
-    go false false false false e f g h = omega (arith, high)
-
 -- ---- a control on the asked level, where no fade runs
 
-module _ (c : Control) (l : ℕ) (rests : c .fade .step ≡ 0) (from : c .fade .from ≡ l) (asked : askedLevel (c .rate) ≡ l) where
+module _ (c : Control) (l : ℕ) (rests : c .fade .step ≡ 0) (from : c .fade .from ≡ l) (asked : askedLevel l (c .rate) ≡ l) where
   pub steady-plan : pointPlan c ≡ steadyPlan l (c .position)
   unfolding pointPlan fadeTarget
-  steady-plan = simp (rests, asked, from, eq-eqb l l refl)
+  steady-plan = simp (rests, from, asked, eq-eqb l l refl)
 
   pub steady-moved : (F : ℕ) → 1 ≤ F → movePoint F c ≡ record { top = c .top; fade = noFade l; rate = c .rate; glide = c .glide; position = advance (c .position) (c .rate) }
   unfolding movePoint fadeAfter

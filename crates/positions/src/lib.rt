@@ -12,7 +12,8 @@ use crate::glide::rate_at;
 use crate::glide::rates_of;
 use control::Control;
 use control::Fade;
-use control::rate::asked_level;
+use control::rate::band_of;
+use control::rate::in_band;
 
 mod glide; // rates along a run
 
@@ -56,7 +57,7 @@ pub fn steady_positions(c: Control, fade: u32, count: usize, positions: &mut [u6
             made: 0,
         };
     }
-    let level = c.fade.from;
+    let stays = band_of(c.fade.from);
     let rates = rates_of(c);
     let limit = outputs_left(c.glide, count);
     let mut rate = c.rate;
@@ -64,7 +65,7 @@ pub fn steady_positions(c: Control, fade: u32, count: usize, positions: &mut [u6
     let mut i = 0;
     while i < limit {
         let next = rate_at(rates, i + 1);
-        if asked_level(next) != level {
+        if !in_band(stays, next) {
             return Run {
                 control: control_at(c, i, rate, position),
                 made: i,

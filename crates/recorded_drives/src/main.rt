@@ -3,24 +3,24 @@
 
 mod calls; // a drive's calls
 mod drive; // a drive
-mod drive_1277;
-mod drive_16976;
-mod drive_17795;
-mod drive_17927;
-mod drive_19363;
-mod drive_4047;
-mod drive_6290;
-mod drive_8735;
+mod drive_16;
+mod drive_19505;
+mod drive_2422;
+mod drive_33350;
+mod drive_5;
+mod drive_5760;
+mod drive_7;
+mod drive_7676;
 mod lines; // lines of text
 mod rates; // rates by their bits
 
 fn main() {
-    drive_1277::text();
-    drive_4047::text();
-    drive_6290::text();
-    drive_8735::text();
-    drive_16976::text();
-    drive_17795::text();
-    drive_17927::text();
-    drive_19363::text();
+    drive_5::text();
+    drive_7::text();
+    drive_16::text();
+    drive_2422::text();
+    drive_5760::text();
+    drive_7676::text();
+    drive_19505::text();
+    drive_33350::text();
 }

@@ -20,7 +20,7 @@ use Rattle.control.specs.Moves.{noGlide, freshControl, jumped, gliding, sought}
 use Rattle.control.specs.Orders.{ordered}
 use Rattle.control.specs.Valid.{GlideValid, Valid}
 use Rattle.refusals.specs.Refusals.{glideCountWrong, positionWrong, openNumber, orderInputNumber}
-use Rattle.control.proofs.Rates.{rate-low, rate-high, asked-≤}
+use Rattle.control.proofs.Rates.{rate-low, rate-high, octave-≤}
 use Rattle.control.proofs.Kept.{moved-valid}
 
 -- ---- opening
@@ -34,17 +34,17 @@ module _ (card : Card) (e : openNumber card ≡ 0) where
   unfolding openNumber
   open-rate = not-refused 9 _ (none-second (refuse 8 (not (topInRange (pos (card .top))))) _ e)
 
--- a fresh control is at rest, at a level that its rate asks for
+-- a fresh control is at rest, at the level of its rate's octave
 pub fresh-valid : (F : ℕ) (card : Card) → 1 ≤ F → openNumber card ≡ 0 → Valid F (freshControl (card .top) (rateOf (card .rate)))
 unfolding freshControl
 fresh-valid F card f e =
     let low = rate-low (card .rate) (card .top) (open-rate card e) in
     let high = rate-high (card .rate) (card .top) (open-rate card e) in
-    let asked = asked-≤ (rateOf (card .rate)) (card .top) high in
+    let octave = octave-≤ (rateOf (card .rate)) (card .top) high in
     record {
       top-high = open-top card e;
-      from-high = asked;
-      to-high = asked;
+      from-high = octave;
+      to-high = octave;
       step-low = f;
       resting = λ z. refl;
       fading = λ n. absurd (n refl);

@@ -5,6 +5,7 @@ use crate::tally::Kind;
 use crate::EDITION;
 use renderer::exact;
 use renderer::voice::{order, play, seek, Lent, Order, Voice};
+use renderer::Edition;
 use std::fmt;
 
 /// What a call is lent. A second book and a told S are for other editions.
@@ -91,12 +92,23 @@ impl Call {
 
     /// The renderer's number and voice; `out` is the output slice of a play.
     pub fn rendered(self, voice: &Voice, lent: &Lent, out: &mut [i16]) -> (u32, Voice) {
+        self.rendered_at(EDITION, voice, lent, out)
+    }
+
+    /// The same at an edition.
+    pub fn rendered_at(
+        self,
+        edition: Edition,
+        voice: &Voice,
+        lent: &Lent,
+        out: &mut [i16],
+    ) -> (u32, Voice) {
         match self {
-            Call::Jump(rate) => order(EDITION, voice, Order::Jump(rate)),
-            Call::Glide(rate, count) => order(EDITION, voice, Order::Glide(rate, count.into())),
-            Call::Seek(position) => seek(EDITION, voice, position),
+            Call::Jump(rate) => order(edition, voice, Order::Jump(rate)),
+            Call::Glide(rate, count) => order(edition, voice, Order::Glide(rate, count.into())),
+            Call::Seek(position) => seek(edition, voice, position),
             Call::Play(_) => {
-                let played = play(EDITION, voice, lent, out);
+                let played = play(edition, voice, lent, out);
                 (played.number, played.voice)
             }
         }

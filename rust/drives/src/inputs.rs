@@ -284,13 +284,14 @@ pub fn list_of_calls(
     count: usize,
     longest: u64,
 ) -> Vec<Call> {
-    let calls = match rng.below(4) {
+    let calls = match rng.below(5) {
         0 => renderer_calls(rng, setting, count, longest),
         // Left as they are, since seeks past the end are among them.
         1 => return (0..count).map(|_| edge_call(rng, setting)).collect(),
         2 => (0..count)
             .map(|_| fade_call(rng, setting, longest))
             .collect(),
+        3 => trembling_calls(rng, setting, count, longest),
         _ => (0..count)
             .map(|_| match rng.below(3) {
                 0 => edge_call(rng, setting),
@@ -357,6 +358,33 @@ fn fade_call(rng: &mut Rng, setting: &Setting, longest: u64) -> Call {
     }
 }
 
+/// A rate held near an octave: glides, and a jump now and then, from one side of it
+/// to the other and to where its level's band ends, with plays between them.
+fn trembling_calls(rng: &mut Rng, setting: &Setting, count: usize, longest: u64) -> Vec<Call> {
+    let octave = octave_rate(rng, setting.top);
+    let trembling = |_| {
+        let rate = rate_near(rng, octave);
+        match rng.below(8) {
+            0 => Call::Jump(rate),
+            1..=3 => Call::Glide(rate, 1 + rng.below(longest + 1) as u32),
+            _ => Call::Play(rng.below(longest + 1) as usize),
+        }
+    };
+    (0..count).map(trembling).collect()
+}
+
+/// A rate that is 15/16 to 17/16 of an octave, or just below that.
+fn rate_near(rng: &mut Rng, octave: f32) -> f32 {
+    let end = octave * 15.0 / 16.0;
+    match rng.below(6) {
+        0 => end,
+        1 => just_below(end),
+        2 => octave,
+        3 => just_below(octave),
+        _ => end + octave * rng.below(1025) as f32 / 8192.0,
+    }
+}
+
 /// Seeks to where windows pass an edge of a level or phases change; short plays.
 fn edge_call(rng: &mut Rng, setting: &Setting) -> Call {
     match rng.below(8) {
@@ -393,11 +421,21 @@ pub fn too_many_outputs(rng: &mut Rng) -> usize {
     MOST_OUTPUTS + 1 + rng.pick(&[0, 0, 0, 1, 4096])
 }
 
-/// A rate that T accepts; one in eight is the last one before an octave.
+/// The rate 2^l for a level l of T's.
+fn octave_rate(rng: &mut Rng, top: u64) -> f32 {
+    (1u32 << rng.below(top + 1)) as f32
+}
+
+/// The f32 before a rate.
+fn just_below(rate: f32) -> f32 {
+    f32::from_bits(rate.to_bits() - 1)
+}
+
+/// A rate that T accepts; one in eight is the last one before an octave. The
+/// renderer's own are often at 15/16 of an octave, or just below it.
 pub fn accepted_rate(rng: &mut Rng, top: u64) -> f32 {
-    let octave = (1u32 << rng.below(top + 1)) as f32;
     match rng.below(8) {
-        0 => f32::from_bits(octave.to_bits() - 1),
+        0 => just_below(octave_rate(rng, top)),
         _ => random_rate(rng, top),
     }
 }

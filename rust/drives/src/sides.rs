@@ -209,7 +209,8 @@ impl Sides {
     pub fn call(&mut self, voice: &mut Words, lent: &Lent, call: Call) -> Result<u32, Difference> {
         let count = call.outputs();
         let mut expected: Vec<i16> = out_pattern(count).collect();
-        let (number, next) = call.rendered(&voice_of(voice), lent, &mut expected);
+        let given = voice_of(voice);
+        let (number, next) = call.rendered(&given, lent, &mut expected);
         let after = words_of(&next);
         let mut words = Guarded::new(voice.iter().copied(), -77);
         let mut out = Guarded::new(out_pattern(count), 7777);
@@ -221,6 +222,9 @@ impl Sides {
         out.intact()?;
         if number == 0 {
             self.tally.note_samples(&expected);
+            if count > 0 {
+                self.tally.note_band(&given, &next);
+            }
         } else {
             let left = out_pattern(count).eq(out.inner().iter().copied());
             same("outputs left alone by a refusal", true, left)?;

@@ -1,5 +1,8 @@
-//! Which numbers were seen at which call, and how often.
+//! Which numbers were seen at which call, how often, and what was seen of the
+//! band in which a level stays.
 
+use crate::EDITION;
+use renderer::voice::{plain_asked_level, Voice};
 use tone::VOICE_LENGTH;
 
 /// The archives' calls that give a number.
@@ -87,10 +90,35 @@ impl Kind {
     }
 }
 
+/// A level's band ends at a rate R of 15 × 2^(23 + level); R counts as just below
+/// where it is less than this away.
+const JUST_BELOW: u64 = 1 << 8;
+
+/// What accepted plays show of the band of a level l.
+#[derive(Clone, Copy, Debug, Default)]
+pub struct Band {
+    /// At rest on l at the end, the rate being below the octave of l.
+    pub held: u64,
+    /// Of these, those at 15/16 of the octave.
+    pub at_end: u64,
+    /// From rest on l at a rate just below 15/16 of the octave.
+    pub left: u64,
+}
+
+impl Band {
+    fn add(&mut self, other: &Band) {
+        self.held += other.held;
+        self.at_end += other.at_end;
+        self.left += other.left;
+    }
+}
+
 /// Counts of a run.
 #[derive(Clone, Debug)]
 pub struct Tally {
     counts: [[u64; NUMBERS]; KINDS.len()],
+    /// The bands of levels 1 to 4.
+    pub bands: [Band; 4],
     /// Of play's 13s, those for a T above 4. The others are for a level above T.
     pub tops_above_4: u64,
     /// Samples compared.
@@ -107,6 +135,7 @@ impl Default for Tally {
     fn default() -> Tally {
         Tally {
             counts: [[0; NUMBERS]; KINDS.len()],
+            bands: [Band::default(); 4],
             tops_above_4: 0,
             samples: 0,
             telling_samples: 0,
@@ -129,6 +158,21 @@ impl Tally {
         self.telling_samples += samples.iter().filter(telling).count() as u64;
     }
 
+    /// Counts what an accepted play of some outputs shows of a level's band.
+    pub fn note_band(&mut self, before: &Voice, after: &Voice) {
+        let end = |voice: &Voice| 15u64 << (23 + voice.level);
+        if after.fade == 0 && plain_asked_level(EDITION, after.rate) < after.level {
+            let band = &mut self.bands[after.level as usize - 1];
+            band.held += 1;
+            band.at_end += u64::from(after.rate == end(after));
+        }
+        let below = end(before).saturating_sub(before.rate);
+        if before.level > 0 && before.fade == 0 && before.glide_count == 0 {
+            let band = &mut self.bands[before.level as usize - 1];
+            band.left += u64::from((1..JUST_BELOW).contains(&below));
+        }
+    }
+
     /// How often a call gave a number.
     pub fn count(&self, kind: Kind, number: u32) -> u64 {
         self.counts[kind as usize][number as usize]
@@ -140,6 +184,9 @@ impl Tally {
             for (count, more) in row.iter_mut().zip(more) {
                 *count += more;
             }
+        }
+        for (band, more) in self.bands.iter_mut().zip(&other.bands) {
+            band.add(more);
         }
         self.tops_above_4 += other.tops_above_4;
         self.samples += other.samples;
@@ -163,7 +210,21 @@ impl Tally {
         self.count(Kind::Play, 13) - self.tops_above_4
     }
 
-    /// What the calls can give and was not seen, as "call number".
+    /// What a drive can show of bands, by name, with how often it was seen.
+    fn bands_seen(&self) -> Vec<(String, u64)> {
+        let named = |(at, band): (usize, &Band)| {
+            let level = at + 1;
+            [
+                (format!("level {level} held"), band.held),
+                (format!("level {level} held at its band's end"), band.at_end),
+                (format!("level {level} left just below it"), band.left),
+            ]
+        };
+        self.bands.iter().enumerate().flat_map(named).collect()
+    }
+
+    /// What the calls can give and was not seen, as "call number", and what plays
+    /// can show and was not seen.
     pub fn not_seen(&self) -> Vec<String> {
         let mut missing = Vec::new();
         for kind in KINDS {
@@ -180,6 +241,8 @@ impl Tally {
         for (reason, _) in play_13.iter().filter(|(_, count)| *count == 0) {
             missing.push(format!("play 13 {reason}"));
         }
+        let bands = self.bands_seen().into_iter();
+        missing.extend(bands.filter(|(_, count)| *count == 0).map(|(what, _)| what));
         missing
     }
 
@@ -208,6 +271,9 @@ impl Tally {
             self.tops_above_4,
             self.levels_above_top()
         ));
+        for (what, count) in self.bands_seen() {
+            text.push_str(&format!("{what}: {count}\n"));
+        }
         text.push_str(&format!(
             "{} drives, {} samples ({} neither 0 nor at a limit), {} store words, \
              {} calls accepted, {} refused\n",
@@ -236,6 +302,12 @@ mod tests {
                 }
             }
         }
+        let bands = Band {
+            held: 1,
+            at_end: 1,
+            left: 1,
+        };
+        tally.bands = [bands; 4];
         assert_eq!(tally.not_seen(), ["seek 12", "play 13 for T"]);
         let mut more = Tally::default();
         more.note(Kind::Seek, 12);
@@ -247,5 +319,27 @@ mod tests {
         tally.add(&more);
         assert!(tally.not_seen().is_empty());
         assert_eq!(tally.accepted(), KINDS.len() as u64);
+        tally.bands[1].left = 0;
+        assert_eq!(tally.not_seen(), ["level 2 left just below it"]);
+    }
+
+    #[test]
+    fn bands_are_counted_by_level() {
+        let at = |level: i64, rate: u64| Voice {
+            level,
+            next_level: level,
+            rate,
+            ..Voice::ZERO
+        };
+        let mut tally = Tally::default();
+        let end = 15 << 24;
+        tally.note_band(&at(1, 1 << 28), &at(1, end));
+        tally.note_band(&at(1, end), &at(1, end + 1));
+        tally.note_band(&at(1, end - 1), &at(0, end - 1));
+        tally.note_band(&at(0, end), &at(0, end));
+        let band = tally.bands[0];
+        assert_eq!((band.held, band.at_end, band.left), (2, 1, 1));
+        let others = tally.bands[1..].iter();
+        assert_eq!(others.map(|band| band.held + band.left).sum::<u64>(), 0);
     }
 }

@@ -89,3 +89,43 @@ fn every_number_of_play() {
     let seen: BTreeSet<u32> = lent.into_iter().chain(states).collect();
     assert_eq!(seen, (0..=9).chain(13..=19).collect());
 }
+
+/// The rates and levels of a line.
+fn rates_and_levels<'a>(text: &'a str, label: &str) -> impl Iterator<Item = (u64, u64)> + 'a {
+    let named = |line: &'a str| line.strip_prefix(label)?.strip_prefix(' ');
+    let words = text.lines().find_map(named).unwrap();
+    let numbers: Vec<u64> = words.split(' ').map(|word| word.parse().unwrap()).collect();
+    let pairs = numbers.as_chunks().0.to_vec();
+    pairs.into_iter().map(|[rate, level]| (rate, level))
+}
+
+/// Down, the level stays to 15/16 of the octave; up, it changes at the octave. A fade
+/// of four points ends an output later.
+#[test]
+fn levels_along_the_glides() {
+    let text = player::text();
+    let (end, octave) = (15 << 24, 16 << 24);
+    let step = 1 << 22;
+    for (late, labels) in [(0, ["down", "up"]), (step, ["down, F 4", "up, F 4"])] {
+        let [down, up] = labels.map(|label| rates_and_levels(&text, label));
+        for (rate, level) in down {
+            assert_eq!(level, u64::from(rate + late >= end), "{rate}");
+        }
+        for (rate, level) in up {
+            assert_eq!(level, u64::from(rate >= octave + late), "{rate}");
+        }
+    }
+}
+
+/// Opened at its band's end a level is the one below; from the level itself it stays
+/// there, is left just below, and is not come back to. The lowest rate has level 0.
+#[test]
+fn levels_at_the_ends_of_the_bands() {
+    let text = player::text();
+    for level in 1..=4 {
+        let label = format!("band of {level}");
+        let levels: Vec<u64> = rates_and_levels(&text, &label).map(|(_, l)| l).collect();
+        let below = level - 1;
+        assert_eq!(levels, [below, level, level, below, below, 0], "{label}");
+    }
+}

@@ -7,7 +7,7 @@ use drives::facts;
 use drives::rattle::{self, SEEDS};
 use drives::recorded::{small_drive, Answered, SmallDrive};
 use drives::EDITION;
-use renderer::voice::{asked_level, open, Card, Lent, Voice};
+use renderer::voice::{asked_level, open, plain_asked_level, Card, Lent, Voice};
 use std::collections::BTreeSet;
 use std::fs;
 use std::path::{Path, PathBuf};
@@ -51,6 +51,24 @@ fn no_other_drives() {
 
 type Seen = BTreeSet<String>;
 
+/// Whether a level is held by its band, or has just been left below its end.
+fn see_band(seen: &mut Seen, voice: &Voice) {
+    if voice.level == 0 {
+        return;
+    }
+    let below = (15i64 << (23 + voice.level)) - voice.rate as i64;
+    let held = voice.fade == 0 && plain_asked_level(EDITION, voice.rate) < voice.level;
+    if held {
+        seen.insert("level held".to_string());
+    }
+    if held && below == 0 {
+        seen.insert("level held at its band's end".to_string());
+    }
+    if voice.next_level < voice.level && (1..256).contains(&below) {
+        seen.insert("level left just below it".to_string());
+    }
+}
+
 /// What stands in a voice between two outputs.
 fn see_voice(seen: &mut Seen, voice: &Voice) {
     if voice.fade > 0 {
@@ -60,6 +78,7 @@ fn see_voice(seen: &mut Seen, voice: &Voice) {
             seen.insert("rate change inside a fade".to_string());
         }
     }
+    see_band(seen, voice);
     if voice.glide_done > 0 {
         seen.insert("glide".to_string());
     }
@@ -121,6 +140,7 @@ fn see_drive(seen: &mut Seen, drive: &SmallDrive) {
 const EXPECTED: &str = "T 0, T 1, T 2, T 3, N 2, N 4, M 1, M 2, M 4, \
     fade 0 to 1, fade 0 to 2, fade 0 to 3, fade 1 to 2, \
     fade 1 to 0, fade 2 to 0, fade 2 to 1, fade 3 to 0, fade 3 to 2, \
+    level held, level held at its band's end, level left just below it, \
     rate change inside a fade, fade at the end, glide, glide that ends, \
     position 2^60, output -32768, output 32767, \
     open: 0, jump: 0, glide: 0, seek: 0, play: 0, play of no outputs, \

@@ -68,8 +68,8 @@ module _ (s : tie.Start) where
   point-ready : {c d : Control} → Ready c → d ≡ movePoint F c → Ready d
   point-ready {c} r e = rw e (movePoint-valid (r .0), rw (movePoint-top F c) (r .1))
 
-  step-small : {c : Control} → Ready c → c .fade .step < 2 ^ 31
-  step-small r = omega (arith, r .0 .step-low, fade-small)
+  plan-small : {c : Control} → Ready c → (c .fade .from ≤ 4) × (c .fade .step < 2 ^ 31)
+  plan-small r = (omega (arith, r .0 .from-high, r .0 .top-high), omega (arith, r .0 .step-low, fade-small))
 
   -- what a plan reads of the store
   abbrev Read : Plan → Type 0
@@ -96,7 +96,7 @@ module _ (c : tie.After-glide-moved) where
   one-ready = glide-ready start (start .pre .1, start .pre .0) one-is
 
 point-plan-requires : tie.Need-point-plan-requires
-point-plan-requires c κs = step-small (start c) (one-ready c)
+point-plan-requires c κs = plan-small (start c) (one-ready c)
 
 -- what its point reads
 first-read : (c : tie.After-point-plan) → Read (start (c .before)) (c .point-plan .result)
@@ -115,7 +115,7 @@ point-of-requires c κs =
     ((r .0 .0 .sizes, w .level-words .ensures .1, c .level-words2 .ensures .1), r .1)
 
 point-moved-requires : tie.Need-point-moved-requires
-point-moved-requires c κs = let o = c .before .before .before .before in step-small (start o) (one-ready o)
+point-moved-requires c κs = let o = c .before .before .before .before in plan-small (start o) (one-ready o)
 
 -- ---- the second point
 
@@ -130,7 +130,7 @@ module _ (c : tie.After-point-moved) where
   two-ready = point-ready (start one) (one-ready one) two-is
 
 point-plan-requires-2 : tie.Need-point-plan-requires-2
-point-plan-requires-2 c κs = step-small (start (one c)) (two-ready c)
+point-plan-requires-2 c κs = plan-small (start (one c)) (two-ready c)
 
 second-read : (c : tie.After-point-plan2) → Read (start (one (c .before))) (c .point-plan2 .result)
 second-read c = let r = two-ready (c .before) in plan-read (r .0) (r .1) (c .point-plan2 .result) (c .point-plan2 .ensures)
@@ -174,7 +174,7 @@ slice-set-from-line-2 : tie.Need-slice-set-from-line-2
 slice-set-from-line-2 c = let line = start (one (c .before .before .before .before)) .pre .2 in search needs
 
 point-moved-requires-2 : tie.Need-point-moved-requires-2
-point-moved-requires-2 c κs = let t = c .before .before .before .before in step-small (start (one t)) (two-ready t)
+point-moved-requires-2 c κs = let t = c .before .before .before .before in plan-small (start (one t)) (two-ready t)
 
 same-length : tie.Need-same-length
 same-length c = search needs

@@ -1,12 +1,15 @@
 -- `positions::steady_positions` meets its contract. The loop's invariant: `Along`, of the outputs so far. Assumes nothing.
 use borrow.Author.Needs.{needs}
 use mathlib.Core.Path.{_≡_, refl, sym, subst, _∙_}
+use mathlib.Core.Bool.{true}
 use Prim.Native.Nat.{ℕ, suc, _+_, _-_, _*_, _^_, _≤_}
 use native.Mathlib.Numerals.{add-one}
 use native.Mathlib.Omega.{arith}
 use lib.ListN.{length, length-set}
+use Rattle.arith.proofs.Tests.{test-holds}
 use Rattle.arith.proofs.Integers.{≤ℤ-trans, pos-≤ℤ}
 use Rattle.control.specs.declared.Control.{Control}
+use Rattle.control.specs.Inner.{inBand}
 use Rattle.positions.specs.declared.glide.Rates.{Rates}
 use Rattle.positions.specs.Inner.{RatesOf, leftOf, rateAt, controlAt}
 use Rattle.positions.specs.Runs.{controlAfter}
@@ -16,15 +19,15 @@ use Rattle.positions.proofs.steady_positions.Statement.{statement}
 use Rattle.positions.proofs.steady_positions.Tie as tie
 
 abbrev Inv-loop : tie.InvT-loop
-Inv-loop c fade count positions₀ level rates limit rate₀ position₀ i₀ positions rate position i = (i ≤ limit) × (length positions ≡ 128) × Along fade c positions (controlAt c i rate position) i × (c .glide .count ≡ 0 → rate ≡ c .rate)
+Inv-loop c fade count positions₀ stays rates limit rate₀ position₀ i₀ positions rate position i = (i ≤ limit) × (length positions ≡ 128) × Along fade c positions (controlAt c i rate position) i × (c .glide .count ≡ 0 → rate ≡ c .rate)
 
 abbrev μ-loop : tie.MeasureT-loop
-μ-loop c fade count positions₀ level rates limit rate₀ position₀ i₀ positions rate position i = limit - i
+μ-loop c fade count positions₀ stays rates limit rate₀ position₀ i₀ positions rate position i = limit - i
 
 -- what the run so far says of the whole
 module _ (a : tie.At-loop Inv-loop μ-loop) where
   abbrev s : tie.Start Inv-loop μ-loop
-  s = a .before .before .before .before .before .before
+  s = a .before .before .before .before .before .before .before
 
   abbrev d : Control
   d = s .args .c
@@ -51,7 +54,7 @@ module _ (a : tie.At-loop Inv-loop μ-loop) where
   i-high = omega (arith, limit-high, a .loop .inv .0)
 
   inside : d .position ≤ 2 ^ 60 - 2 ^ 40
-  inside = omega (arith, a .before .before .before .if1 .left)
+  inside = omega (arith, a .before .before .before .before .if1 .left)
 
 -- a turn
 module _ (b : tie.In-loop Inv-loop μ-loop) where
@@ -88,15 +91,18 @@ returns : tie.Need-returns Inv-loop μ-loop
 unfolding controlAfter
 returns c = let s = c .before .before .before in ((omega arith, refl, s .pre .5), ((λ k l. absurd (omega arith)), (λ k l. absurd (omega arith))))
 
+band-of-requires : tie.Need-band-of-requires Inv-loop μ-loop
+band-of-requires c κs = let v = c .before .before .before .pre .0 in omega (arith, v .from-high, v .top-high)
+
 rates-of-requires : tie.Need-rates-of-requires Inv-loop μ-loop
-rates-of-requires c κs = control-fits (c .before .before .before .pre .0)
+rates-of-requires c κs = control-fits (c .before .before .before .before .pre .0)
 
 outputs-left-requires : tie.Need-outputs-left-requires Inv-loop μ-loop
-outputs-left-requires c κs = control-fits (c .before .before .before .before .pre .0) .glide-fits
+outputs-left-requires c κs = control-fits (c .before .before .before .before .before .pre .0) .glide-fits
 
 loop-holds : tie.Need-loop-holds Inv-loop μ-loop
 loop-holds c =
-    let s = c .before .before .before .before .before in
+    let s = c .before .before .before .before .before .before in
     let x = s .args .c in
     let e : x ≡ controlAt x 0 (x .rate) (x .position) = sym (control-none (s .pre .0) (s .pre .1)) in
     (omega arith, s .pre .5, subst (λ w. Along (s .args .fade) x (s .args .positions .now) w 0) e (along-none (s .args .fade) x (s .args .positions .now) (s .pre .0) (s .pre .1)), λ z. refl)
@@ -109,8 +115,8 @@ rate-at-requires c κs =
     let low = rates-are c .low (suc (i (turn c))) (near c) (left c) in
     rw (add-one (i (turn c))) (rates-are c .start-size, rates-are c .slope-size, near c, ≤ℤ-trans (pos-≤ℤ (omega arith)) low)
 
-asked-level-requires : tie.Need-asked-level-requires Inv-loop μ-loop
-asked-level-requires c κs = search needs
+in-band-requires : tie.Need-in-band-requires Inv-loop μ-loop
+in-band-requires c κs = search needs
 
 control-at-requires : tie.Need-control-at-requires Inv-loop μ-loop
 control-at-requires c κs = let a = turn (inner (c .before .before)) in (i-high a, control-fits (s a .pre .0) .glide-fits)
@@ -165,10 +171,11 @@ loop-again c =
     let b = inner r in
     let a = turn b in
     let l = a .loop .inv .1 in
-    let asked = sym (c .before .asked-level .ensures) ∙ c .if2 .left in (
+    let tested = test-holds (c .before .in-band .ensures) (c .if2 .left) in
+    let stays = subst (λ w. inBand w (r .rate-at .result) ≡ true) (a .before .before .before .band-of .ensures) tested in (
       omega (arith, b .loop-test .taken),
       simp length-set l,
-      rw (add-one (i a)) (along-run (a .loop .position) (along a) (s a .pre .0) (near b) (left b) (a .loop .inv .3) (next-is r) (inside a) asked (s a .pre .3) (omega (arith, l, near b))),
+      rw (add-one (i a)) (along-run (a .loop .position) (along a) (s a .pre .0) (near b) (left b) (a .loop .inv .3) (next-is r) (inside a) stays (s a .pre .3) (omega (arith, l, near b))),
       λ z. next-is r ∙ still-rate (d a) z (suc (i a)),
     )
 
@@ -190,12 +197,13 @@ steady-positions-spec =
     Inv-loop
     μ-loop
     returns
+    band-of-requires
     rates-of-requires
     outputs-left-requires
     loop-holds
     add-rate-at
     rate-at-requires
-    asked-level-requires
+    in-band-requires
     control-at-requires
     same-length
     returns-2

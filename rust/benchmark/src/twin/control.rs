@@ -118,9 +118,9 @@ impl Control {
         let rates = &self.rates[at / 2..points / 2];
         if self.step == 0 {
             let level = self.from;
-            let asked = asked_level(rates[0]);
+            let asked = asked_level(level, rates[0]);
             if asked == level {
-                let same = |rate: &u64| asked_level(*rate) == level;
+                let same = |rate: &u64| asked_level(level, *rate) == level;
                 let end = if rates.last().is_some_and(same) {
                     points
                 } else {

@@ -63,7 +63,7 @@ impl Voice {
         let Some(rate) = scaled_rate(rate, top) else {
             return (10, Voice::ZERO);
         };
-        let level = asked_level(rate);
+        let level = octave_level(rate);
         let voice = Voice {
             top,
             from: level,
@@ -234,6 +234,16 @@ fn scaled_rate(rate: f32, top: u32) -> Option<u64> {
 }
 
 /// max(0, floor(log2 r)), for R above 0.
-pub(super) fn asked_level(rate: u64) -> u32 {
+fn octave_level(rate: u64) -> u32 {
     rate.ilog2().saturating_sub(27)
+}
+
+/// The level that R asks for from the current one: downwards it stays down to
+/// 15/16 of the octave.
+pub(super) fn asked_level(current: u32, rate: u64) -> u32 {
+    let level = octave_level(rate);
+    match level < current && 15 << (27 + current) <= 16 * rate {
+        true => current,
+        false => level,
+    }
 }

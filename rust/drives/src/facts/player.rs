@@ -1,5 +1,6 @@
-//! The text of `player_facts`: glides, limits and every number of every call, with
-//! whether the voice came back as it was.
+//! The text of `player_facts`: glides, limits, the levels along a glide and the ends
+//! of their bands, and every number of every call, with whether the voice came back
+//! as it was.
 
 use super::damage::{with, Field};
 use super::{changed, K};
@@ -13,6 +14,9 @@ const SLOW: [i32; 11] = [2, 1, 0, 0, 4, 0, 16384, 16384, -16384, 16384, 16384];
 
 /// A silent store of 3 samples with top level 1: S, T, two lengths, 3 + 2 words.
 const SILENT: [i32; 9] = [3, 1, 3, 2, 0, 0, 0, 0, 0];
+
+/// The same with top level 4: S, T, five lengths, 3 + 2 + 1 + 1 + 1 words.
+const SILENT_4: [i32; 15] = [3, 4, 3, 2, 1, 1, 1, 0, 0, 0, 0, 0, 0, 0, 0];
 
 /// A position past the last, 2^60.
 const FAR: u64 = (1 << 60) + 1;
@@ -82,6 +86,73 @@ fn glide() -> String {
     let mut words = [0; 5].map(|_| one_output(&mut voice)).to_vec();
     words.push(voice.glide_count);
     line("glide", &words)
+}
+
+/// The rate of a voice, and its current level: in a fade the old one.
+fn rate_and_level(voice: &Voice) -> [u64; 2] {
+    [voice.rate, voice.level as u64]
+}
+
+/// One output more, and its rate and the level after it.
+fn level_after(voice: &mut Voice, book: &[i32]) -> [u64; 2] {
+    *voice = play(EDITION, voice, &lent(book, &SILENT_4), &mut [0]).voice;
+    rate_and_level(voice)
+}
+
+/// A glide of 8 outputs to a rate.
+fn glide_levels(label: &str, voice: &mut Voice, target: f32, book: &[i32]) -> String {
+    *voice = order(EDITION, voice, Order::Glide(target, 8)).1;
+    line(label, &[0; 8].map(|_| level_after(voice, book)).concat())
+}
+
+/// A voice with top level 4.
+fn high(rate: f32) -> Voice {
+    open(EDITION, Card { rate, top: 4 }).1
+}
+
+/// From 2 down past 1.875 to 1.75 and up again, with a fade of one point and of four.
+fn glides_past_the_band() -> String {
+    let (mut fast, mut slow) = (high(2.0), high(2.0));
+    [
+        glide_levels("down", &mut fast, 1.75, &K),
+        glide_levels("up", &mut fast, 2.0, &K),
+        glide_levels("down, F 4", &mut slow, 1.75, &SLOW),
+        glide_levels("up, F 4", &mut slow, 2.0, &SLOW),
+    ]
+    .concat()
+}
+
+/// One output after a jump.
+fn level_at(voice: &mut Voice, rate: f32) -> [u64; 2] {
+    *voice = order(EDITION, voice, Order::Jump(rate)).1;
+    level_after(voice, &K)
+}
+
+/// A level's band: opened at its end, and from the level itself to that end, just
+/// below it and back, and to the lowest rate.
+fn band(label: &str, octave: f32, end: f32, below: f32) -> String {
+    let voice = high(octave);
+    let (mut falling, mut lowest) = (voice, voice);
+    let words = [
+        rate_and_level(&high(end)),
+        rate_and_level(&voice),
+        level_at(&mut falling, end),
+        level_at(&mut falling, below),
+        level_at(&mut falling, end),
+        level_at(&mut lowest, 0.0625),
+    ];
+    line(label, &words.concat())
+}
+
+/// The bands of levels 1 to 4: down to 15/16 of the octave.
+fn bands() -> String {
+    [
+        band("band of 1", 2.0, 1.875, 1.8749999),
+        band("band of 2", 4.0, 3.75, 3.7499998),
+        band("band of 3", 8.0, 7.5, 7.4999995),
+        band("band of 4", 16.0, 15.0, 14.999999),
+    ]
+    .concat()
 }
 
 fn jumped(label: &str, voice: &Voice, rate: f32) -> String {
@@ -305,6 +376,8 @@ pub fn text() -> String {
         limits(),
         no_rates(),
         glide(),
+        glides_past_the_band(),
+        bands(),
         orders(),
         seeks(),
         state("fresh", &fresh()),

@@ -3,7 +3,7 @@
 use borrow.Author.Needs.{needs}
 use borrow.Author.Tests.{ne-eqb}
 use mathlib.Core.Path.{_≡_, sym, ap, ap₂, _∙_}
-use Rattle.control.specs.Rate.{askedLevel}
+use Rattle.control.specs.Rate.{octaveLevel}
 use Rattle.control.specs.Moves.{freshControl}
 use Rattle.refusals.specs.Refusals.{openNumber}
 use Rattle.player.specs.Inner.{restingVoice}
@@ -34,8 +34,8 @@ scaled-rate-requires c κs =
     let card = c .before .before .args .card in
     rate-wider _ _ 4 (open-top card (no-number c)) (open-rate card (no-number c))
 
-asked-level-requires : tie.Need-asked-level-requires
-asked-level-requires c κs = search needs
+octave-level-requires : tie.Need-octave-level-requires
+octave-level-requires c κs = search needs
 
 resting-requires-2 : tie.Need-resting-requires-2
 resting-requires-2 c κs = search needs
@@ -49,8 +49,8 @@ returns-2 c =
     simp (no-number (r .before))
     (ap (answer 0)
     (c .resting2 .ensures
-    ∙ ap (restingVoice top (r .scaled-rate .result)) (l .asked-level .ensures)
-    ∙ ap (λ R. restingVoice top R (askedLevel R)) (r .scaled-rate .ensures)))
+    ∙ ap (restingVoice top (r .scaled-rate .result)) (l .octave-level .ensures)
+    ∙ ap (λ R. restingVoice top R (octaveLevel R)) (r .scaled-rate .ensures)))
 
 pub open-spec : {M : Type 1} → statement M
 open-spec =
@@ -60,6 +60,6 @@ open-spec =
     resting-requires
     returns
     scaled-rate-requires
-    asked-level-requires
+    octave-level-requires
     resting-requires-2
     returns-2)

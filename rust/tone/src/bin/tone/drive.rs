@@ -6,6 +6,7 @@ use std::path::Path;
 use tone::{Refusal, Voice, MOST_OUTPUTS};
 
 use crate::arguments::PlayRequest;
+use crate::fades::{longest_play, Place};
 use crate::failure::Failure;
 
 /// A call of a drive.
@@ -117,6 +118,7 @@ pub struct Player<'a> {
     book: &'a [i32],
     store: &'a [i32],
     out: Vec<i16>,
+    fades: u64,
 }
 
 impl<'a> Player<'a> {
@@ -139,7 +141,13 @@ impl<'a> Player<'a> {
             store,
             // One more than a play may have is enough to have it refused.
             out: vec![0; MOST_OUTPUTS + 1],
+            fades: 0,
         })
+    }
+
+    /// The fades that have begun.
+    pub fn fades(&self) -> u64 {
+        self.fades
     }
 
     /// Makes one call. Hands out the samples that it played: none but for play.
@@ -148,13 +156,24 @@ impl<'a> Player<'a> {
             Call::Jump(rate) => self.voice.jump(rate).map(|()| &[][..]),
             Call::Glide(rate, count) => self.voice.glide(rate, count).map(|()| &[][..]),
             Call::Seek(position) => self.voice.seek(position).map(|()| &[][..]),
-            Call::Play(count) => {
-                let count = count.min(self.out.len());
-                let out = &mut self.out[..count];
-                self.voice.play(self.book, self.store, out)?;
-                Ok(out)
-            }
+            Call::Play(count) => self.play(count),
         }
+    }
+
+    /// Plays in parts, so that each fade is seen: cuts leave samples and voice as
+    /// they are. A play that is refused for its count is made whole.
+    fn play(&mut self, count: usize) -> Result<&[i16], Refusal> {
+        let part = match count {
+            0..=MOST_OUTPUTS => longest_play(self.book),
+            _ => self.out.len(),
+        };
+        let count = count.min(self.out.len());
+        for out in self.out[..count].chunks_mut(part) {
+            let before = Place::of(&self.voice);
+            self.voice.play(self.book, self.store, out)?;
+            self.fades += u64::from(before.began(Place::of(&self.voice)));
+        }
+        Ok(&self.out[..count])
     }
 }
 

@@ -17,6 +17,7 @@
 
 mod arguments;
 mod drive;
+mod fades;
 mod failure;
 #[allow(unsafe_code)]
 mod interrupt;
@@ -120,7 +121,8 @@ fn play(request: &PlayRequest) -> Result<(), Failure> {
     }
     output.finish()?;
     drop(progress);
-    say(format_args!("{} outputs\n", header.samples()))
+    let (outputs, fades) = (header.samples(), player.fades());
+    say(format_args!("{outputs} outputs, {fades} fades\n"))
 }
 
 /// The test hum, a block after another.

@@ -1,6 +1,7 @@
-// Drive 16976, made by rust/drives.
+// Drive 7676, made by rust/drives.
 use crate::calls::COUNT;
 use crate::calls::GLIDE;
+use crate::calls::JUMP;
 use crate::calls::PLAY;
 use crate::calls::SEEK;
 use crate::drive;
@@ -8,23 +9,23 @@ use crate::drive;
 const BOOK: [i32; 19] = [
     4,
     1,
-    1,
-    3,
-    6,
+    2,
+    2,
+    5,
     0,
-    -5377,
-    -11007,
+    4752,
+    12873,
+    -3495,
+    4752,
+    8121,
+    -16368,
+    3495,
+    16162,
+    3584,
     0,
-    -5377,
-    -5630,
-    11007,
-    0,
-    -4504,
-    -5940,
-    13050,
-    -9346,
-    0,
-    513,
+    5128,
+    11354,
+    2466,
 ];
 
 const SAMPLES: [i16; 60] = [
@@ -91,20 +92,20 @@ const SAMPLES: [i16; 60] = [
 ];
 
 const CALLS: [u64; 12] = [
-    PLAY + 3,
-    PLAY + 34,
-    PLAY + 26,
-    SEEK + 5429137425,
-    PLAY + 29,
-    PLAY + 17,
-    GLIDE + 65535 * COUNT + 0x3f700000,
-    PLAY + 20,
-    SEEK + 671694723,
-    PLAY + 15,
-    SEEK + 1152921504606846976,
-    PLAY + 37,
+    JUMP + 0x3f7cd35a,
+    PLAY + 1,
+    GLIDE + 7 * COUNT + 0x4101e4f7,
+    JUMP + 0x40800000,
+    PLAY + 18,
+    JUMP + 0x40ffffff,
+    JUMP + 0x406fffff,
+    SEEK + 7651582154,
+    PLAY + 12,
+    JUMP + 0x40800000,
+    SEEK + 7657064447,
+    PLAY + 2,
 ];
 
 pub fn text() {
-    drive::text(16976, &BOOK, &SAMPLES, 0, 0x3f82d0e5, &CALLS);
+    drive::text(7676, &BOOK, &SAMPLES, 3, 0x40868e35, &CALLS);
 }
