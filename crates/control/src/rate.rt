@@ -93,7 +93,7 @@ pub fn in_band(b: Band, rate: u64) -> bool
 }
 
 // The level that a rate asks for from the current one.
-pub(crate) fn asked_level(current: u32, rate: u64) -> u32
+pub fn asked_level(current: u32, rate: u64) -> u32
     requires { ⌜ current ≤ 4 ⌝ }
     ensures { λ r. ⌜ r ≡ askedLevel current rate ⌝ }
 {
