@@ -73,16 +73,27 @@ pub fn band_of(level: u32) -> Band
     requires { ⌜ level ≤ 4 ⌝ }
     ensures { λ r. ⌜ r ≡ bandOf level ⌝ }
 {
-    if level == 0 {
-        return Band {
+    match level {
+        0 => Band {
             low: 0,
             high: 268435456,
-        };
-    }
-    let sixteenth = 1u64 << (23 + level); // of the octave's start
-    Band {
-        low: 15 * sixteenth,
-        high: 32 * sixteenth,
+        },
+        1 => Band {
+            low: 251658240,
+            high: 536870912,
+        },
+        2 => Band {
+            low: 503316480,
+            high: 1073741824,
+        },
+        3 => Band {
+            low: 1006632960,
+            high: 2147483648,
+        },
+        _ => Band {
+            low: 2013265920,
+            high: 4294967296,
+        },
     }
 }
 

@@ -19,7 +19,7 @@ use Rattle.positions.specs.Runs.{controlAfter, firstPlan, secondPlan, st
 use Rattle.positions.specs.Inner.{leftOf, rateAt, glideAt, controlAt}
 use Rattle.control.proofs.Bands.{band-high, band-stays}
 use Rattle.control.proofs.Kept.{moveGlide-valid, movePoint-valid}
-use Rattle.positions.proofs.Glides.{control-fits, rate-at-high, control-next}
+use Rattle.positions.proofs.Glides.{control-fits, rate-at-high, control-some, control-next}
 use Rattle.positions.proofs.Steady.{moveGlide-fade, moveGlide-position, steady-plan, steady-moved, advance-high, advance-low, advance-below}
 
 -- the positions ps of the points of i outputs from control c, and the control d after them
@@ -192,9 +192,9 @@ along-next {F} {c} {d} {z = z} {ps = ps} {i = i} a ex stays eP ez h room =
 
 -- ---- one output more of a run whose rates are known
 
-module _ {F : ℕ} {c : Control} {ps : List ℕ} {i R N : ℕ} (P : ℕ) (a : Along F c ps (controlAt c i R P) i) (s : Valid F c) (near : suc i ≤ 64) (left : leftOf (c .glide) (suc i)) (still : c .glide .count ≡ 0 → R ≡ c .rate)
-    (N-is : N ≡ rateAt c (suc i)) (inside : c .position ≤ 2 ^ 60 - 2 ^ 40) where
-  position-is : controlAt c i R P .position ≡ P
+module _ {F : ℕ} {c : Control} {ps : List ℕ} {i N : ℕ} (P : ℕ) (a : Along F c ps (controlAt c i P) i) (s : Valid F c) (near : suc i ≤ 64) (left : leftOf (c .glide) (suc i)) (N-is : N ≡ rateAt c (suc i))
+    (inside : c .position ≤ 2 ^ 60 - 2 ^ 40) where
+  position-is : controlAt c i P .position ≡ P
   unfolding controlAt
   position-is = refl
 
@@ -206,11 +206,16 @@ module _ {F : ℕ} {c : Control} {ps : List ℕ} {i R N : ℕ} (P : ℕ) (a : Al
       let r : rateAt c (suc i) ≤ 2 ^ 32 = rate-at-high (control-fits s) (suc i) left in
       omega (arith, a .high, h, r, N-is, near, position-is, inside)
 
-  pub along-run : inBand (bandOf (c .fade .from)) N ≡ true → 1 ≤ F → 2 * i + 1 < length ps → Along F c (set (set ps (2 * i) P) (2 * i + 1) (P + N)) (controlAt c (suc i) N (P + 2 * N)) (suc i)
-  unfolding controlAt
+  -- at rate N, the glide being one output further
+  abbrev moved : ℕ → Control
+  moved Q = record { top = c .top; fade = noFade (c .fade .from); rate = N; glide = glideAt (c .glide) (suc i); position = Q }
+
+  moved-is : (Q : ℕ) → controlAt c (suc i) Q ≡ moved Q
+  moved-is Q = control-some c i Q ∙ ap (λ R. record { top = c .top; fade = noFade (c .fade .from); rate = R; glide = glideAt (c .glide) (suc i); position = Q }) (sym N-is)
+
+  pub along-run : inBand (bandOf (c .fade .from)) N ≡ true → 1 ≤ F → 2 * i + 1 < length ps → Along F c (set (set ps (2 * i) P) (2 * i + 1) (P + N)) (controlAt c (suc i) (P + 2 * N)) (suc i)
   along-run stays F-low room =
-      let x : Control = record { top = c .top; fade = noFade (c .fade .from); rate = N; glide = glideAt (c .glide) (suc i); position = P } in
-      let ex : x ≡ moveGlide (controlAt c i R P) = ap (λ r. record { top = c .top; fade = noFade (c .fade .from); rate = r; glide = glideAt (c .glide) (suc i); position = P }) N-is ∙ control-next c i R P left still in
+      let ex : moved P ≡ moveGlide (controlAt c i P) = sym (moved-is P) ∙ control-next c i P left in
       let one : P + N ≡ advance P N = sym (advance-below P N (omega (arith, run-high))) in
       let two : P + 2 * N ≡ advance (P + N) N = sym (advance-below (P + N) N (omega (arith, run-high)) ∙ omega arith) in
-      along-next a ex stays one (ap (λ q. record { top = c .top; fade = noFade (c .fade .from); rate = N; glide = glideAt (c .glide) (suc i); position = q }) two) F-low room
+      along-next a ex stays one (moved-is (P + 2 * N) ∙ ap moved two) F-low room

@@ -1,5 +1,6 @@
 -- The laws of a quotient with its rest, and of a glide's place: the sum of two quotients, and the place after one output more. Assumes nothing.
 use mathlib.Core.Path.{_≡_, refl, sym, ap, ap₂, _∙_}
+use mathlib.Core.Bool.{Bool, true, false, cond}
 use Prim.Native.Nat.{ℕ, suc, _+_, _*_, _^_, _≤_, _<_}
 use native.Mathlib.Nat.{le-trans, mul-le-mul-left, add-zero, add-suc}
 use native.Mathlib.Decide.{ℕ-discrete}
@@ -201,21 +202,30 @@ glide-none g f = go (ℕ-discrete (g .count) 0)
     go (yes z) = rw (eq-eqb (g .count) 0 z)
     go (no n) = rw (ne-eqb (g .count) 0 n, add-zero (g .done), ne-eqb (g .done) (g .count) (λ e. absurd (omega (arith, f n .done-high))))
 
-pub control-none : {F : ℕ} {c : Control} → Valid F c → c .fade .step ≡ 0 → controlAt c 0 (c .rate) (c .position) ≡ c
+pub control-none : {F : ℕ} {c : Control} → Valid F c → c .fade .step ≡ 0 → controlAt c 0 (c .position) ≡ c
 unfolding controlAt
 control-none {c = c} s rests =
     let fade : noFade (c .fade .from) ≡ c .fade = ap₂ (λ (t n : ℕ). record { from = c .fade .from; to = t; step = n }) (s .resting rests) (sym rests) in
     let glide = glide-none (c .glide) (control-fits s .glide-fits) in
     ap₂ (λ (f : Fade) (g : Glide). record { top = c .top; fade = f; rate = c .rate; glide = g; position = c .position }) fade glide
 
+-- without a glide R stays
+either-way : (b : Bool) (R : ℕ) → cond b R R ≡ R
+either-way true R = refl
+either-way false R = refl
+
+-- after some outputs
+pub control-some : (c : Control) (i P : ℕ) → controlAt c (suc i) P ≡ record { top = c .top; fade = noFade (c .fade .from); rate = rateAt c (suc i); glide = glideAt (c .glide) (suc i); position = P }
+unfolding controlAt
+control-some c i P = simp (ne-eqb (suc i) 0 (λ e. absurd (omega arith)))
+
 -- one output more, before its points
-pub control-next : (c : Control) (i R P : ℕ) → leftOf (c .glide) (suc i) → (c .glide .count ≡ 0 → R ≡ c .rate)
-    → record { top = c .top; fade = noFade (c .fade .from); rate = rateAt c (suc i); glide = glideAt (c .glide) (suc i); position = P } ≡ moveGlide (controlAt c i R P)
+pub control-next : (c : Control) (i P : ℕ) → leftOf (c .glide) (suc i) → controlAt c (suc i) P ≡ moveGlide (controlAt c i P)
 unfolding controlAt glideAt rateAt moveGlide glideAfter glideRate
-control-next c i R P left still = go (ℕ-discrete (c .glide .count) 0)
+control-next c i P left = control-some c i P ∙ go (ℕ-discrete (c .glide .count) 0)
   where
-    go : Dec (c .glide .count ≡ 0) → record { top = c .top; fade = noFade (c .fade .from); rate = rateAt c (suc i); glide = glideAt (c .glide) (suc i); position = P } ≡ moveGlide (controlAt c i R P)
-    go (yes z) = simp (eq-eqb (c .glide .count) 0 z, still z)
+    go : Dec (c .glide .count ≡ 0) → record { top = c .top; fade = noFade (c .fade .from); rate = rateAt c (suc i); glide = glideAt (c .glide) (suc i); position = P } ≡ moveGlide (controlAt c i P)
+    go (yes z) = simp (eq-eqb (c .glide .count) 0 z, either-way)
     go (no n) =
         let l = left n in
         simp (ne-eqb (c .glide .count) 0 n, add-suc, ne-eqb (c .glide .done + i) (c .glide .count) (λ e. absurd (omega arith)))

@@ -50,6 +50,8 @@ pub record RatesOf (c : Control) (r : Rates) : Type 0 where
   pub low : (i : ℕ) → i ≤ 64 → leftOf (c .glide) i → pos (2 ^ 23 * rateAt c i) ≤ℤ (r .start +ℤ r .slope *ℤ pos i)
   pub high : (i : ℕ) → i ≤ 64 → leftOf (c .glide) i → (r .start +ℤ r .slope *ℤ pos i) <ℤ pos (2 ^ 23 * rateAt c i + 2 ^ 23)
 
--- a control after i outputs without a fade
-unfoldable pub controlAt : Control → ℕ → ℕ → ℕ → Control
-controlAt c i R P = record { top = c .top; fade = noFade (c .fade .from); rate = R; glide = glideAt (c .glide) i; position = P }
+-- a control after i outputs without a fade: after none R is as it was, on a glide too
+unfoldable pub controlAt : Control → ℕ → ℕ → Control
+controlAt c i P =
+    let rate = cond (eqb i 0) (c .rate) (rateAt c i) in
+    record { top = c .top; fade = noFade (c .fade .from); rate = rate; glide = glideAt (c .glide) i; position = P }

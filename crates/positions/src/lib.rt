@@ -5,7 +5,8 @@ ghost use Prim.Native.Nat.{ℕ, _+_, _*_, _^_, _≤_, _<_};
 ghost use lib.ListN.{length, getD};
 ghost use Rattle.control.specs.Valid.{Valid};
 ghost use Rattle.positions.specs.Runs.{controlAfter, firstPlan, secondPlan, steadyPlan};
-ghost use Rattle.positions.specs.Inner.{GlideFits, controlAt};
+ghost use Rattle.positions.specs.Inner.{ControlFits, RatesOf, leftOf, controlAt};
+use crate::glide::Rates;
 use crate::glide::glide_at;
 use crate::glide::outputs_left;
 use crate::glide::rate_at;
@@ -23,12 +24,13 @@ pub struct Run {
     pub made: usize,
 }
 
-// A control after i outputs that needed no fade.
-fn control_at(c: Control, i: usize, rate: u64, position: u64) -> Control
-    requires { ⌜ (i ≤ 64) × ((c .glide .count ≡ 0 → ⊥) → GlideFits (c .glide)) ⌝ }
-    ensures { λ r. ⌜ r ≡ controlAt c i rate position ⌝ }
+// A control after some outputs, i of them, that needed no fade.
+fn control_at(c: Control, rates: Rates, i: usize, position: u64) -> Control
+    requires { ⌜ ControlFits c × RatesOf c rates × (i ≤ 64) × leftOf (c .glide) i × (1 ≤ i) ⌝ }
+    ensures { λ r. ⌜ r ≡ controlAt c i position ⌝ }
 {
     let level = c.fade.from;
+    let rate = rate_at(rates, i);
     let glide = glide_at(c.glide, i);
     Control {
         top: c.top,
@@ -60,25 +62,26 @@ pub fn steady_positions(c: Control, fade: u32, count: usize, positions: &mut [u6
     let stays = band_of(c.fade.from);
     let rates = rates_of(c);
     let limit = outputs_left(c.glide, count);
-    let mut rate = c.rate;
     let mut position = c.position;
     let mut i = 0;
     while i < limit {
         let next = rate_at(rates, i + 1);
         if !in_band(stays, next) {
-            return Run {
-                control: control_at(c, i, rate, position),
-                made: i,
-            };
+            break;
         }
         positions[2 * i] = position;
         positions[2 * i + 1] = position + next;
-        rate = next;
         position += 2 * next;
         i += 1;
     }
+    if i == 0 {
+        return Run {
+            control: c,
+            made: 0,
+        };
+    }
     Run {
-        control: control_at(c, i, rate, position),
+        control: control_at(c, rates, i, position),
         made: i,
     }
 }

@@ -10,19 +10,18 @@ use Rattle.arith.proofs.Tests.{test-holds}
 use Rattle.arith.proofs.Integers.{≤ℤ-trans, pos-≤ℤ}
 use Rattle.control.specs.declared.Control.{Control}
 use Rattle.control.specs.Inner.{inBand}
-use Rattle.positions.specs.declared.glide.Rates.{Rates}
 use Rattle.positions.specs.Inner.{RatesOf, leftOf, rateAt, controlAt}
 use Rattle.positions.specs.Runs.{controlAfter}
-use Rattle.positions.proofs.Glides.{still-rate, control-fits, control-none}
+use Rattle.positions.proofs.Glides.{control-fits, control-none}
 use Rattle.positions.proofs.Along.{Along, along-none, run-high, along-run}
 use Rattle.positions.proofs.steady_positions.Statement.{statement}
 use Rattle.positions.proofs.steady_positions.Tie as tie
 
 abbrev Inv-loop : tie.InvT-loop
-Inv-loop c fade count positions₀ stays rates limit rate₀ position₀ i₀ positions rate position i = (i ≤ limit) × (length positions ≡ 128) × Along fade c positions (controlAt c i rate position) i × (c .glide .count ≡ 0 → rate ≡ c .rate)
+Inv-loop c fade count positions₀ stays rates limit position₀ i₀ positions position i = (i ≤ limit) × (length positions ≡ 128) × Along fade c positions (controlAt c i position) i
 
 abbrev μ-loop : tie.MeasureT-loop
-μ-loop c fade count positions₀ stays rates limit rate₀ position₀ i₀ positions rate position i = limit - i
+μ-loop c fade count positions₀ stays rates limit position₀ i₀ positions position i = limit - i
 
 -- what the run so far says of the whole
 module _ (a : tie.At-loop Inv-loop μ-loop) where
@@ -41,7 +40,7 @@ module _ (a : tie.At-loop Inv-loop μ-loop) where
   abbrev i : ℕ
   i = a .loop .i
 
-  along : Along F d (a .loop .positions) (controlAt d i (a .loop .rate) (a .loop .position)) i
+  along : Along F d (a .loop .positions) (controlAt d i (a .loop .position)) i
   along = a .loop .inv .2
 
   limit-high : limit ≤ 64
@@ -56,6 +55,13 @@ module _ (a : tie.At-loop Inv-loop μ-loop) where
   inside : d .position ≤ 2 ^ 60 - 2 ^ 40
   inside = omega (arith, a .before .before .before .before .if1 .left)
 
+  -- what the control after them is made from
+  so-far : leftOf (d .glide) i
+  so-far n = omega (arith, a .loop .inv .0, a .before .outputs-left .ensures .1 n)
+
+  rates-are : RatesOf d (a .before .before .rates-of .result)
+  rates-are = a .before .before .rates-of .ensures
+
 -- a turn
 module _ (b : tie.In-loop Inv-loop μ-loop) where
   abbrev turn : tie.At-loop Inv-loop μ-loop
@@ -67,12 +73,6 @@ module _ (b : tie.In-loop Inv-loop μ-loop) where
   left : leftOf (d turn .glide) (suc (i turn))
   left n = omega (arith, b .loop-test .taken, turn .before .outputs-left .ensures .1 n)
 
-  abbrev rates : Rates
-  rates = turn .before .before .rates-of .result
-
-  rates-are : RatesOf (d turn) rates
-  rates-are = turn .before .before .rates-of .ensures
-
 -- its rate
 module _ (r : tie.After-rate-at Inv-loop μ-loop) where
   abbrev inner : tie.In-loop Inv-loop μ-loop
@@ -82,10 +82,10 @@ module _ (r : tie.After-rate-at Inv-loop μ-loop) where
   next-is =
       let j = suc (i (turn inner)) in
       let given = rw (add-one (i (turn inner))) at (r .rate-at .ensures) in
-      given (rateAt (d (turn inner)) j) (rates-are inner .low j (near inner) (left inner)) (rates-are inner .high j (near inner) (left inner))
+      given (rateAt (d (turn inner)) j) (rates-are (turn inner) .low j (near inner) (left inner)) (rates-are (turn inner) .high j (near inner) (left inner))
 
   high : turn inner .loop .position + 2 * r .rate-at .result ≤ 2 ^ 60
-  high = run-high (turn inner .loop .position) (along (turn inner)) (s (turn inner) .pre .0) (near inner) (left inner) (turn inner .loop .inv .3) next-is (inside (turn inner))
+  high = run-high (turn inner .loop .position) (along (turn inner)) (s (turn inner) .pre .0) (near inner) (left inner) next-is (inside (turn inner))
 
 returns : tie.Need-returns Inv-loop μ-loop
 unfolding controlAfter
@@ -104,30 +104,19 @@ loop-holds : tie.Need-loop-holds Inv-loop μ-loop
 loop-holds c =
     let s = c .before .before .before .before .before .before in
     let x = s .args .c in
-    let e : x ≡ controlAt x 0 (x .rate) (x .position) = sym (control-none (s .pre .0) (s .pre .1)) in
-    (omega arith, s .pre .5, subst (λ w. Along (s .args .fade) x (s .args .positions .now) w 0) e (along-none (s .args .fade) x (s .args .positions .now) (s .pre .0) (s .pre .1)), λ z. refl)
+    let e : x ≡ controlAt x 0 (x .position) = sym (control-none (s .pre .0) (s .pre .1)) in
+    (omega arith, s .pre .5, subst (λ w. Along (s .args .fade) x (s .args .positions .now) w 0) e (along-none (s .args .fade) x (s .args .positions .now) (s .pre .0) (s .pre .1)))
 
 add-rate-at : tie.Need-add-rate-at Inv-loop μ-loop
 add-rate-at c = omega (arith, near c)
 
 rate-at-requires : tie.Need-rate-at-requires Inv-loop μ-loop
 rate-at-requires c κs =
-    let low = rates-are c .low (suc (i (turn c))) (near c) (left c) in
-    rw (add-one (i (turn c))) (rates-are c .start-size, rates-are c .slope-size, near c, ≤ℤ-trans (pos-≤ℤ (omega arith)) low)
+    let low = rates-are (turn c) .low (suc (i (turn c))) (near c) (left c) in
+    rw (add-one (i (turn c))) (rates-are (turn c) .start-size, rates-are (turn c) .slope-size, near c, ≤ℤ-trans (pos-≤ℤ (omega arith)) low)
 
 in-band-requires : tie.Need-in-band-requires Inv-loop μ-loop
 in-band-requires c κs = search needs
-
-control-at-requires : tie.Need-control-at-requires Inv-loop μ-loop
-control-at-requires c κs = let a = turn (inner (c .before .before)) in (i-high a, control-fits (s a .pre .0) .glide-fits)
-
-same-length : tie.Need-same-length Inv-loop μ-loop
-same-length c = let a = turn (inner (c .before .before .before)) in a .loop .inv .1 ∙ sym (s a .pre .5)
-
-returns-2 : tie.Need-returns-2 Inv-loop μ-loop
-returns-2 c =
-    let a = turn (inner (c .before .before .before)) in
-    ((made-high a, c .control-at .ensures ∙ along a .after, a .loop .inv .1), (along a .plans, along a .bounds))
 
 mul-positions : tie.Need-mul-positions Inv-loop μ-loop
 mul-positions c = let b = inner (c .before .before) in omega (arith, near b)
@@ -175,20 +164,28 @@ loop-again c =
     let stays = subst (λ w. inBand w (r .rate-at .result) ≡ true) (a .before .before .before .band-of .ensures) tested in (
       omega (arith, b .loop-test .taken),
       simp length-set l,
-      rw (add-one (i a)) (along-run (a .loop .position) (along a) (s a .pre .0) (near b) (left b) (a .loop .inv .3) (next-is r) (inside a) stays (s a .pre .3) (omega (arith, l, near b))),
-      λ z. next-is r ∙ still-rate (d a) z (suc (i a)),
+      rw (add-one (i a)) (along-run (a .loop .position) (along a) (s a .pre .0) (near b) (left b) (next-is r) (inside a) stays (s a .pre .3) (omega (arith, l, near b))),
     )
 
-control-at-requires-2 : tie.Need-control-at-requires-2 Inv-loop μ-loop
-control-at-requires-2 c κs = let a = c .before in (i-high a, control-fits (s a .pre .0) .glide-fits)
+same-length : tie.Need-same-length Inv-loop μ-loop
+same-length c = let a = c .before .before in a .loop .inv .1 ∙ sym (s a .pre .5)
+
+returns-2 : tie.Need-returns-2 Inv-loop μ-loop
+unfolding controlAfter
+returns-2 c = let a = c .before .before in ((omega arith, refl, a .loop .inv .1), ((λ k l. absurd (omega arith)), (λ k l. absurd (omega arith))))
+
+control-at-requires : tie.Need-control-at-requires Inv-loop μ-loop
+control-at-requires c κs =
+    let a = c .before .before in
+    (control-fits (s a .pre .0), rates-are a, i-high a, so-far a, omega (arith, c .if3 .left))
 
 same-length-2 : tie.Need-same-length-2 Inv-loop μ-loop
-same-length-2 c = let a = c .before .before in a .loop .inv .1 ∙ sym (s a .pre .5)
+same-length-2 c = let a = c .before .before .before in a .loop .inv .1 ∙ sym (s a .pre .5)
 
 returns-3 : tie.Need-returns-3 Inv-loop μ-loop
 returns-3 c =
-    let a = c .before .before in
-    ((made-high a, c .control-at2 .ensures ∙ along a .after, a .loop .inv .1), (along a .plans, along a .bounds))
+    let a = c .before .before .before in
+    ((made-high a, c .control-at .ensures ∙ along a .after, a .loop .inv .1), (along a .plans, along a .bounds))
 
 pub steady-positions-spec : {M : Type 1} → statement M
 steady-positions-spec =
@@ -204,9 +201,6 @@ steady-positions-spec =
     add-rate-at
     rate-at-requires
     in-band-requires
-    control-at-requires
-    same-length
-    returns-2
     mul-positions
     mul-positions-2
     slice-write-positions
@@ -220,6 +214,8 @@ steady-positions-spec =
     add-i
     loop-less
     loop-again
-    control-at-requires-2
+    same-length
+    returns-2
+    control-at-requires
     same-length-2
     returns-3)

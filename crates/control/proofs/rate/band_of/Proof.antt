@@ -1,51 +1,33 @@
--- `control::rate::band_of` meets its contract: 2^(23 + l) is below 2^59, so that the shift and both products lose nothing. Assumes nothing.
-use borrow.Author.Needs.{needs}
-use mathlib.Core.Path.{_≡_, sym, ap, ap₂, _∙_}
-use Prim.Native.Nat.{ℕ, _+_, _*_, _^_, _%_, _≤_}
-use native.Mathlib.Nat.{one-mul}
+-- `control::rate::band_of` meets its contract: each arm's numbers are those of its level. Assumes nothing.
+use mathlib.Core.Path.{_≡_, sym, ap}
+use Prim.Native.Nat.{ℕ}
 use native.Mathlib.Omega.{arith}
-use borrow.Author.Tests.{eq-eqb, ne-eqb}
-use lib.Pow.{pow-add, pow-mono, shl-exact}
-use Rattle.control.specs.declared.rate.Band.{Band}
 use Rattle.control.specs.Inner.{bandOf}
 use Rattle.control.proofs.rate.band_of.Statement.{statement}
 use Rattle.control.proofs.rate.band_of.Tie as tie
 
-module _ (c : tie.Else1) where
-  abbrev l : ℕ
-  l = c .before .args .level
-
-  shifted : 1 * 2 ^ (23 + l) % 2 ^ 64 ≡ 2 ^ (23 + l)
-  shifted = let room : 1 + (23 + l) ≤ 64 = omega arith in shl-exact 1 (23 + l) 64 (omega arith) room ∙ one-mul (2 ^ (23 + l))
-
-  small : 2 ^ (23 + l) ≤ 2 ^ 27
-  small = pow-mono {i = 23 + l} {j = 27} (omega arith)
-
-  octave : 32 * 2 ^ (23 + l) ≡ 2 ^ (28 + l)
-  octave = sym (let e : 28 + l ≡ 5 + (23 + l) = omega arith in ap (λ (i : ℕ). 2 ^ i) e ∙ pow-add 2 5 (23 + l))
+at : {a b : ℕ} → a ≡ b → bandOf b ≡ bandOf a
+at e = ap bandOf (sym e)
 
 returns : tie.Need-returns
 unfolding bandOf
-returns c = simp (c .if1 .taken)
-
-add-sixteenth : tie.Need-add-sixteenth
-add-sixteenth c = search needs
-
-cast-sixteenth : tie.Need-cast-sixteenth
-cast-sixteenth c = search needs
-
-shl-sixteenth : tie.Need-shl-sixteenth
-shl-sixteenth c = search needs
-
-mul-t5 : tie.Need-mul-t5
-mul-t5 c = omega (arith, shifted c, small c)
-
-mul-t6 : tie.Need-mul-t6
-mul-t6 c = omega (arith, shifted c, small c)
+returns c = at (c .match .keys1)
 
 returns-2 : tie.Need-returns-2
 unfolding bandOf
-returns-2 c = simp (ne-eqb (l c) 0 (c .if1 .left), shifted c, octave c)
+returns-2 c = at (c .match .keys2)
+
+returns-3 : tie.Need-returns-3
+unfolding bandOf
+returns-3 c = at (c .match .keys3)
+
+returns-4 : tie.Need-returns-4
+unfolding bandOf
+returns-4 c = at (c .match .keys4)
+
+returns-5 : tie.Need-returns-5
+unfolding bandOf
+returns-5 c = let e : c .before .args .level ≡ 4 = omega arith in at e
 
 pub band-of-spec : {M : Type 1} → statement M
-band-of-spec = tie.close (tie.spec returns add-sixteenth cast-sixteenth shl-sixteenth mul-t5 mul-t6 returns-2)
+band-of-spec = tie.close (tie.spec returns returns-2 returns-3 returns-4 returns-5)
