@@ -1,14 +1,14 @@
 -- The asked level by its band: inside the band of the current level it stays, and outside it is that of the rate's octave.
 -- Assumes nothing.
-use mathlib.Core.Path.{_≡_, refl, sym, ap, _∙_}
+use mathlib.Core.Path.{_≡_, refl, ap, _∙_}
 use mathlib.Core.Bool.{Bool, true, false, not, _&&_, cond}
 use Prim.Native.Nat.{ℕ, _+_, _*_, _^_, _≤_, _<_}
 use native.Mathlib.Decide.{decLt}
 use native.Mathlib.Nat.{lt-of-lt-of-le}
 use native.Mathlib.Omega.{arith}
-use lib.Dec.{leb, ltb, eqb}
+use lib.Dec.{leb, ltb}
 use lib.Pow.{pow-add, pow-mono}
-use borrow.Author.Tests.{ltb-true, ltb-false, le-ltb, lt-ltb, le-leb, lt-leb, ne-eqb}
+use borrow.Author.Tests.{ltb-true, le-ltb, lt-ltb, le-leb, lt-leb, ne-eqb}
 use Rattle.arith.proofs.Tests.{&&-right, &&-true}
 use Rattle.control.specs.Rate.{octaveLevel, askedLevel}
 use Rattle.control.specs.Inner.{bandOf, inBand}

@@ -18,7 +18,6 @@ use Rattle.control.specs.declared.Fade.{Fade}
 use Rattle.control.specs.declared.Control.{Control}
 use Rattle.control.specs.Rate.{advance}
 use Rattle.control.specs.Moves.{glideAfter, noFade, glideRate, moveGlide, fadeTarget, pointPlan, fadeAfter, movePoint, moveOutput}
-use Rattle.control.proofs.Rates.{rate-low, rate-high}
 use Rattle.control.proofs.Bands.{asked-≤}
 use Rattle.control.specs.Valid.{GlideValid, Valid}
 

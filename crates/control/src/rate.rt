@@ -68,7 +68,7 @@ pub struct Band {
     pub high: u64,
 }
 
-// From 15/16 of the octave's start, and from 0 at level 0, up to below the next octave.
+// From 15/16 of the octave's start, and from 0 at level 0, up to below the next octave. A table, since a run looks both ends up once.
 pub fn band_of(level: u32) -> Band
     requires { ⌜ level ≤ 4 ⌝ }
     ensures { λ r. ⌜ r ≡ bandOf level ⌝ }
@@ -97,13 +97,14 @@ pub fn band_of(level: u32) -> Band
     }
 }
 
+// Whether a level stays at a rate.
 pub fn in_band(b: Band, rate: u64) -> bool
     ensures { λ r. ⌜ r ≡ inBand b rate ⌝ }
 {
     b.low <= rate && rate < b.high
 }
 
-// The level that a rate asks for from the current one.
+// The level that a rate asks for from the current one: that one inside its band, else that of the rate's octave.
 pub fn asked_level(current: u32, rate: u64) -> u32
     requires { ⌜ current ≤ 4 ⌝ }
     ensures { λ r. ⌜ r ≡ askedLevel current rate ⌝ }

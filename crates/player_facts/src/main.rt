@@ -1,5 +1,6 @@
 // Facts of the player that documents 01 and 02 state and do not star: glides, limits, the levels along a glide and the ends of their bands,
-// and every number of every call, with the first of two that hold at once. Of a number, a line each: what is called, the number, and whether the voice came back as it was.
+// and every number of every call, with the first of two that hold at once. Of a number, a line each: what is called, the number, and whether
+// the voice came back as it was.
 use control::Card;
 use control::Order;
 use player::Answer;

@@ -45,8 +45,8 @@ fn control_at(c: Control, rates: Rates, i: usize, position: u64) -> Control
     }
 }
 
-// Moves the control along up to `count` outputs that need no fade, and writes the positions of their points. None beyond 2^60 − 2^40, where P may
-// reach its end.
+// Moves the control along up to `count` outputs at whose rates the level stays, and writes the positions of their points. None beyond
+// 2^60 − 2^40, where P may reach its end.
 pub fn steady_positions(c: Control, fade: u32, count: usize, positions: &mut [u64]) -> Run
     requires { ⌜ Valid fade c × (c .fade .step ≡ 0) × (count ≤ 64) × (1 ≤ fade) × (fade ≤ 256) × (length (now positions) ≡ 128) ⌝ }
     ensures { λ r. ⌜ (r .made ≤ count) × (r .control ≡ controlAfter fade c (r .made)) × (length (now (positions .exit)) ≡ 128) ⌝ }

@@ -2,7 +2,7 @@
 -- nothing.
 use borrow.Author.Needs.{needs}
 use mathlib.Core.Path.{_≡_, sym, ap, _∙_}
-use mathlib.Core.Bool.{Bool, cond}
+use mathlib.Core.Bool.{cond}
 use Rattle.control.specs.Rate.{octaveLevel}
 use Rattle.control.specs.Inner.{bandOf, inBand}
 use Rattle.control.proofs.Bands.{band-asked, band-stays}
