@@ -92,8 +92,9 @@ uint32_t tone_check_store(const int32_t *store, size_t store_words);
 
 /*
  * Opens a voice at a rate, for stores of top level `top`: at position 0, on the
- * level that the rate asks for, with no glide, no fade and a silent history. A
- * rate of 1 is the recorded speed. R is rate x 2^27, with nothing lost.
+ * level of the rate's octave (level l has the rates from 2^l up to below 2^(l+1),
+ * level 0 those below 1 too), with no glide, no fade and a silent history. A rate
+ * of 1 is the recorded speed. R is rate x 2^27, with nothing lost.
  *
  * Numbers: 28, then 8 of T, then 10.
  * Writes:  the voice: the fresh one, or after 8 and 10 the zero record, 95 words
@@ -144,6 +145,13 @@ uint32_t tone_seek(int32_t *voice, size_t voice_words, uint64_t position);
  * store's header. A count of 0 outputs is accepted and leaves the voice as it is.
  * The levels may hold anything: a word of level j beyond -2^(23+j)..2^(23+j) is
  * read as that limit.
+ *
+ * Where no fade runs and the rate asks for another level than the current one, a
+ * fade to that level begins. Upwards a rate asks for the level of its octave. The
+ * current level l stays, downwards, until 16 x R < 15 x 2^(27+l), which is 15/16
+ * of where its octave begins; then the level of the rate's octave is asked for,
+ * which may lie several below. So a rate that trembles across an octave takes no
+ * fade each time.
  *
  * Numbers: 28, then 1 2 3 4 5 6 7 of the book, then 9 8 9 18 of the store, as
  *          tone_check_store gives them, then 13 of the voice, then 19, then

@@ -89,8 +89,9 @@ pub struct Voice {
 }
 
 impl Voice {
-    /// A fresh voice at a rate, for stores of top level `top`. Refused 8 for a
-    /// top level above 4, 10 for a rate not from 1/16 up to below 2^(T+1).
+    /// A fresh voice at a rate, for stores of top level `top`, on the level of the
+    /// rate's octave. Refused 8 for a top level above 4, 10 for a rate not from
+    /// 1/16 up to below 2^(T+1).
     pub fn open(rate: f32, top: u32) -> Result<Voice, Refusal> {
         let mut words = [0; VOICE_WORDS];
         Refusal::answer(archive::open(rate, top, &mut words))?;
@@ -152,6 +153,22 @@ impl Voice {
     /// or 18 for the store (see [`check_store`]), 13 for the voice, 19 where its
     /// T is not the store's, 14 to 17 for the voice, 11 for more than 1048576
     /// outputs; then neither `out` nor the voice is changed.
+    ///
+    /// Upwards a fade leads to the level of the rate's octave as soon as it is
+    /// reached. Downwards a level stays to 15/16 of where its own octave begins, so
+    /// that a rate that trembles across an octave takes no fade each time.
+    ///
+    /// ```
+    /// # let book = [2, 1, 0, 0, 1, 0, 16384, 16384, -16384, 16384, 16384];
+    /// # let store = [3, 1, 3, 2, 0, 256_000, 512_000, 0, 512_000];
+    /// let mut voice = tone::Voice::open(2.0, 1)?;
+    /// for (rate, level) in [(1.875, 1), (1.874, 0), (1.99, 0), (2.0, 1)] {
+    ///     voice.jump(rate)?;
+    ///     voice.play(&book, &store, &mut [0])?;
+    ///     assert_eq!(voice.words()[1], level);
+    /// }
+    /// # Ok::<(), tone::Refusal>(())
+    /// ```
     ///
     /// However a stretch of outputs is cut into plays, the samples and the
     /// voice at its end are the same.
