@@ -48,10 +48,10 @@ band-asked l R h = go (decLt (octaveLevel R) l)
 pub band-stays : (l R : ℕ) → l ≤ 4 → inBand (bandOf l) R ≡ true → askedLevel l R ≡ l
 band-stays l R h e = band-asked l R h ∙ ap (λ b. cond b l (octaveLevel R)) e
 
+pub ≤-either : (b : Bool) {m n k : ℕ} → m ≤ k → n ≤ k → cond b m n ≤ k
+≤-either true h l = h
+≤-either false h l = l
+
 pub asked-≤ : (l R top : ℕ) → l ≤ top → R < 2 ^ (28 + top) → askedLevel l R ≤ top
 unfolding askedLevel
-asked-≤ l R top h u = go (ltb (octaveLevel R) l && not (ltb (16 * R) (15 * 2 ^ (27 + l))))
-  where
-    go : (b : Bool) → cond b l (octaveLevel R) ≤ top
-    go true = h
-    go false = octave-≤ R top u
+asked-≤ l R top h u = ≤-either (ltb (octaveLevel R) l && not (ltb (16 * R) (15 * 2 ^ (27 + l)))) h (octave-≤ R top u)

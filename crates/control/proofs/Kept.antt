@@ -18,7 +18,7 @@ use Rattle.control.specs.declared.Fade.{Fade}
 use Rattle.control.specs.declared.Control.{Control}
 use Rattle.control.specs.Rate.{advance}
 use Rattle.control.specs.Moves.{glideAfter, noFade, glideRate, moveGlide, fadeTarget, pointPlan, fadeAfter, movePoint, moveOutput}
-use Rattle.control.proofs.Bands.{asked-≤}
+use Rattle.control.proofs.Bands.{≤-either, asked-≤}
 use Rattle.control.specs.Valid.{GlideValid, Valid}
 
 -- with another rate in range, glide and position
@@ -97,13 +97,14 @@ next-glide-valid {T} {g} r = go (ℕ-discrete (suc (g .done)) (g .count))
       done-high = omega (arith, r .done-high);
     })
 
-top-either : (b : Bool) (c d : Control) → d .top ≡ c .top → cond b c d .top ≡ c .top
-top-either true c d e = refl
-top-either false c d e = e
+-- what either of two has alike
+pub either : {A B : Type 0} (field : A → B) (b : Bool) (c d : A) → field d ≡ field c → field (cond b c d) ≡ field c
+either field true c d e = refl
+either field false c d e = e
 
 pub moveGlide-top : (c : Control) → moveGlide c .top ≡ c .top
 unfolding moveGlide
-moveGlide-top c = top-either (eqb (c .glide .count) 0) c _ refl
+moveGlide-top c = either (λ d. d .top) (eqb (c .glide .count) 0) c _ refl
 
 -- the new rate lies where both ends of the glide lie
 pub moveGlide-valid : {F : ℕ} {c : Control} → Valid F c → Valid F (moveGlide c)
@@ -121,10 +122,6 @@ moveGlide-valid {F} {c} s = go (ℕ-discrete (c .glide .count) 0)
         rw (ne-eqb (g .count) 0 z) (moved-valid s (glideRate g j) low (omega (arith, r .start-high, high)) (glideAfter g j) (next-glide-valid r) (c .position) (s .position-high))
 
 -- ---- points
-
-≤-either : (b : Bool) {m n k : ℕ} → m ≤ k → n ≤ k → cond b m n ≤ k
-≤-either true h l = h
-≤-either false h l = l
 
 -- what a point reads lies in range: levels 0..T, i up to F, P up to 2^60
 module _ {F : ℕ} {c : Control} (s : Valid F c) where

@@ -5,6 +5,7 @@ use mathlib.Core.Path.{_≡_, refl, sym, ap, _∙_}
 use mathlib.Core.Bool.{Bool, true, false, not, _&&_, _||_, cond, true≢false}
 use Prim.Native.Nat.{ℕ, zero, suc, _+_, _-_, _*_, _/_, _%_, _^_, _≤_, _<_, min}
 use native.Mathlib.Nat.{lt-of-lt-of-le, lt-of-not-le, mul-assoc, mul-right-comm, mul-one, one-mul, mul-div-cancel, mul-mod-left, mul-le-mul-right, le-div-iff-mul-le, div-lt-iff-lt-mul, eq-of-mul-eq-mul-right}
+use native.Mathlib.Decide.{ℕ-discrete}
 use native.Mathlib.Omega.{arith}
 use lib.IntN.{ℤ, pos, negsuc}
 use lib.Dec.{T, leb, ltb, eqb, ltb→lt, lit≤}
@@ -155,24 +156,24 @@ not-nan r f h = and-i (fits binary64 r) (not (isNan r)) (fits-widens r f) (numbe
 exponent-below : (i j : ℕ) {R : ℕ} → 2 ^ i ≤ R → R < 2 ^ j → i < j
 exponent-below i j l u = lt-of-not-le (λ (g : j ≤ i). omega (arith, pow-mono g))
 
-pub octave-≤ : (R top : ℕ) → R < 2 ^ (28 + top) → octaveLevel R ≤ top
+-- from where its octave begins, if that is not the lowest, up to below the next, if there is one
+octave-ends : (R : ℕ) → ((octaveLevel R ≡ 0 → ⊥) → 2 ^ (27 + octaveLevel R) ≤ R) × (octaveLevel R < 4 → R < 2 ^ (28 + octaveLevel R))
 unfolding octaveLevel
-octave-≤ R top u = go (ltb R (2 ^ 28)) (ltb R (2 ^ 29)) (ltb R (2 ^ 30)) (ltb R (2 ^ 31)) refl refl refl refl
+octave-ends R = go (ltb R (2 ^ 28)) (ltb R (2 ^ 29)) (ltb R (2 ^ 30)) (ltb R (2 ^ 31)) refl refl refl refl
   where
-    go : (a b c d : Bool) → ltb R (2 ^ 28) ≡ a → ltb R (2 ^ 29) ≡ b → ltb R (2 ^ 30) ≡ c → ltb R (2 ^ 31) ≡ d → cond a 0 (cond b 1 (cond c 2 (cond d 3 4))) ≤ top
-    go true b c d e f g h = omega arith
-    go false true c d e f g h = omega (arith, exponent-below 28 (28 + top) (ltb-false R (2 ^ 28) e) u)
-    go false false true d e f g h = omega (arith, exponent-below 29 (28 + top) (ltb-false R (2 ^ 29) f) u)
-    go false false false true e f g h = omega (arith, exponent-below 30 (28 + top) (ltb-false R (2 ^ 30) g) u)
-    go false false false false e f g h = omega (arith, exponent-below 31 (28 + top) (ltb-false R (2 ^ 31) h) u)
+    go : (a b c d : Bool) → ltb R (2 ^ 28) ≡ a → ltb R (2 ^ 29) ≡ b → ltb R (2 ^ 30) ≡ c → ltb R (2 ^ 31) ≡ d → let l : ℕ = cond a 0 (cond b 1 (cond c 2 (cond d 3 4))) in ((l ≡ 0 → ⊥) → 2 ^ (27 + l) ≤ R) × (l < 4 → R < 2 ^ (28 + l))
+    go true b c d e f g h = ((λ n. absurd (n refl)), (λ k. ltb-true R (2 ^ 28) e))
+    go false true c d e f g h = ((λ n. ltb-false R (2 ^ 28) e), (λ k. ltb-true R (2 ^ 29) f))
+    go false false true d e f g h = ((λ n. ltb-false R (2 ^ 29) f), (λ k. ltb-true R (2 ^ 30) g))
+    go false false false true e f g h = ((λ n. ltb-false R (2 ^ 30) g), (λ k. ltb-true R (2 ^ 31) h))
+    go false false false false e f g h = ((λ n. ltb-false R (2 ^ 31) h), (λ k. absurd (omega arith)))
 
 pub octave-high : (R : ℕ) → octaveLevel R < 4 → R < 2 ^ (28 + octaveLevel R)
-unfolding octaveLevel
-octave-high R = go (ltb R (2 ^ 28)) (ltb R (2 ^ 29)) (ltb R (2 ^ 30)) (ltb R (2 ^ 31)) refl refl refl refl
+octave-high R = octave-ends R .1
+
+pub octave-≤ : (R top : ℕ) → R < 2 ^ (28 + top) → octaveLevel R ≤ top
+octave-≤ R top u = go (ℕ-discrete (octaveLevel R) 0)
   where
-    go : (a b c d : Bool) → ltb R (2 ^ 28) ≡ a → ltb R (2 ^ 29) ≡ b → ltb R (2 ^ 30) ≡ c → ltb R (2 ^ 31) ≡ d → cond a 0 (cond b 1 (cond c 2 (cond d 3 4))) < 4 → R < 2 ^ (28 + cond a 0 (cond b 1 (cond c 2 (cond d 3 4))))
-    go true b c d e f g h = λ k. omega (arith, ltb-true R (2 ^ 28) e)
-    go false true c d e f g h = λ k. omega (arith, ltb-true R (2 ^ 29) f)
-    go false false true d e f g h = λ k. omega (arith, ltb-true R (2 ^ 30) g)
-    go false false false true e f g h = λ k. omega (arith, ltb-true R (2 ^ 31) h)
-    go false false false false e f g h = λ k. absurd (omega arith)
+    go : Dec (octaveLevel R ≡ 0) → octaveLevel R ≤ top
+    go (yes z) = omega (arith, z)
+    go (no n) = omega (arith, exponent-below (27 + octaveLevel R) (28 + top) (octave-ends R .0 n) u)

@@ -1,26 +1,27 @@
 -- The laws of a quotient with its rest, and of a glide's place: the sum of two quotients, and the place after one output more. Assumes nothing.
 use mathlib.Core.Path.{_≡_, refl, sym, ap, ap₂, _∙_}
-use mathlib.Core.Bool.{Bool, true, false, cond}
 use Prim.Native.Nat.{ℕ, suc, _+_, _*_, _^_, _≤_, _<_}
 use native.Mathlib.Nat.{le-trans, mul-le-mul-left, add-zero, add-suc}
 use native.Mathlib.Decide.{ℕ-discrete}
 use native.Mathlib.Omega.{arith}
 use borrow.Author.Tests.{eq-eqb, ne-eqb}
+use lib.Dec.{eqb}
 use lib.IntN.{ℤ, pos, negℤ, natAbs, _+ℤ_, _-ℤ_, _*ℤ_}
 use lib.Signed.{_≤ℤ_, _<ℤ_}
 use lib.Pow.{pow-mono}
 use Rattle.arith.specs.Floor.{floorDiv}
 use Rattle.arith.proofs.Linear.{linear}
-use Rattle.arith.proofs.Integers.{abs-≤, abs-above, abs-triangle, abs-*-≤, <ℤ-≤ℤ, *ℤ-≤ℤ-pos, *ℤ-<ℤ-cancel}
+use Rattle.arith.proofs.Integers.{≤ℤ-trans, pos-≤ℤ, abs-≤, abs-above, abs-triangle, abs-*-≤, <ℤ-≤ℤ, *ℤ-≤ℤ-pos, *ℤ-<ℤ-cancel}
 use Rattle.arith.proofs.Floor.{floor-≤, floor-<, floor-+}
 use Rattle.control.specs.declared.Glide.{Glide}
 use Rattle.control.specs.declared.Control.{Control}
 use Rattle.control.specs.declared.Fade.{Fade}
 use Rattle.positions.specs.declared.glide.Quotient.{Quotient}
+use Rattle.positions.specs.declared.glide.Rates.{Rates}
 use Rattle.control.specs.Moves.{noFade, glideRate, glideAfter, moveGlide}
 use Rattle.control.specs.Valid.{GlideValid, Valid}
 use Rattle.positions.specs.Inner.{GlideFits, ControlFits, RatesOf, quotient, glideSum, leftOf, rateAt, glideAt, controlAt}
-use Rattle.control.proofs.Kept.{glide-is, glide-high}
+use Rattle.control.proofs.Kept.{either, glide-is, glide-high}
 
 -- ---- a quotient and its rest
 
@@ -179,6 +180,10 @@ module _ (c : Control) where
           high = λ i k l. at-high i k (l n);
         }
 
+-- what `rate_at` asks for, of an output of the run
+pub rate-readable : {c : Control} {r : Rates} → RatesOf c r → (i : ℕ) → i ≤ 64 → leftOf (c .glide) i → (natAbs (r .start) ≤ 2 ^ 56) × (natAbs (r .slope) ≤ 2 ^ 56) × (i ≤ 64) × (pos 0 ≤ℤ (r .start +ℤ r .slope *ℤ pos i))
+rate-readable s i near left = (s .start-size, s .slope-size, near, ≤ℤ-trans (pos-≤ℤ (omega arith)) (s .low i near left))
+
 -- ---- the control along a run
 
 pub control-fits : {F : ℕ} {c : Control} → Valid F c → ControlFits c
@@ -209,11 +214,6 @@ control-none {c = c} s rests =
     let glide = glide-none (c .glide) (control-fits s .glide-fits) in
     ap₂ (λ (f : Fade) (g : Glide). record { top = c .top; fade = f; rate = c .rate; glide = g; position = c .position }) fade glide
 
--- without a glide R stays
-either-way : (b : Bool) (R : ℕ) → cond b R R ≡ R
-either-way true R = refl
-either-way false R = refl
-
 -- after some outputs
 pub control-some : (c : Control) (i P : ℕ) → controlAt c (suc i) P ≡ record { top = c .top; fade = noFade (c .fade .from); rate = rateAt c (suc i); glide = glideAt (c .glide) (suc i); position = P }
 unfolding controlAt
@@ -225,7 +225,7 @@ unfolding controlAt glideAt rateAt moveGlide glideAfter glideRate
 control-next c i P left = control-some c i P ∙ go (ℕ-discrete (c .glide .count) 0)
   where
     go : Dec (c .glide .count ≡ 0) → record { top = c .top; fade = noFade (c .fade .from); rate = rateAt c (suc i); glide = glideAt (c .glide) (suc i); position = P } ≡ moveGlide (controlAt c i P)
-    go (yes z) = simp (eq-eqb (c .glide .count) 0 z, either-way)
+    go (yes z) = simp (eq-eqb (c .glide .count) 0 z, either (λ (R : ℕ). R) (eqb i 0) (c .rate) (c .rate) refl)
     go (no n) =
         let l = left n in
         simp (ne-eqb (c .glide .count) 0 n, add-suc, ne-eqb (c .glide .done + i) (c .glide .count) (λ e. absurd (omega arith)))

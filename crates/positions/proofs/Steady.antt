@@ -1,6 +1,5 @@
 -- The laws of points without a fade: the plan is the current level at P, and only P moves. Assumes nothing.
 use mathlib.Core.Path.{_≡_, refl}
-use mathlib.Core.Bool.{Bool, true, false, cond}
 use Prim.Native.Nat.{ℕ, _+_, _^_, _≤_}
 use native.Mathlib.Nat.{min-le-left, le-min}
 use native.Mathlib.Omega.{arith}
@@ -9,13 +8,10 @@ use lib.Dec.{eqb}
 use Rattle.control.specs.declared.Control.{Control}
 use Rattle.control.specs.Rate.{askedLevel, advance}
 use Rattle.control.specs.Moves.{noFade, moveGlide, fadeTarget, pointPlan, fadeAfter, movePoint}
+use Rattle.control.proofs.Kept.{either}
 use Rattle.positions.specs.Runs.{steadyPlan}
 
 -- ---- a glide's move leaves the fade and P
-
-either : {A : Type 0} (field : Control → A) (b : Bool) (c d : Control) → field d ≡ field c → field (cond b c d) ≡ field c
-either field true c d e = refl
-either field false c d e = e
 
 pub moveGlide-fade : (c : Control) → moveGlide c .fade ≡ c .fade
 unfolding moveGlide

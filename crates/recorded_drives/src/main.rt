@@ -3,24 +3,24 @@
 
 mod calls; // a drive's calls
 mod drive; // a drive
-mod drive_16;
 mod drive_19505;
-mod drive_2422;
+mod drive_2184;
+mod drive_23;
+mod drive_29102;
 mod drive_33350;
 mod drive_5;
-mod drive_5760;
 mod drive_7;
-mod drive_7676;
+mod drive_7059;
 mod lines; // lines of text
 mod rates; // rates by their bits
 
 fn main() {
     drive_5::text();
     drive_7::text();
-    drive_16::text();
-    drive_2422::text();
-    drive_5760::text();
-    drive_7676::text();
+    drive_23::text();
+    drive_2184::text();
+    drive_7059::text();
     drive_19505::text();
+    drive_29102::text();
     drive_33350::text();
 }

@@ -9,13 +9,14 @@ use crate::call::Call;
 use crate::recorded::{small_drive, SmallDrive};
 use std::fmt::Display;
 
-/// The drives of `crates/recorded_drives`. The test `recorded` lists what they
-/// show: T 0 to 3, every N and M of small drives, fades up and down by one to three
-/// levels, a level held by its band, at the band's end too, and left just below it,
-/// rate changes inside a fade, glides, a position that stops at 2^60, outputs at both
-/// limits, refused calls of every kind. A refused opening returns the zero record,
-/// whose T is 0: plays with it are refused 19 where the store's T is not, else 15.
-pub const SEEDS: [u64; 8] = [5, 7, 16, 2422, 5760, 7676, 19505, 33350];
+/// The drives of `crates/recorded_drives`, each of another recording. The test
+/// `recorded` lists what they show: T 0 to 3, every N and M of small drives, fades
+/// up and down by one to three levels, a level held by its band, at the band's end
+/// too, and left just below it, rate changes inside a fade, glides, a position that
+/// stops at 2^60, outputs at both limits, refused calls of every kind. A refused
+/// opening returns the zero record, whose T is 0: plays with it are refused 19 where
+/// the store's T is not, else 15.
+pub const SEEDS: [u64; 8] = [5, 7, 23, 2184, 7059, 19505, 29102, 33350];
 
 /// Longest text between the brackets of an array that stays on one line, as the
 /// formatter of the language has it.

@@ -6,7 +6,8 @@ use drives::call::{lent, Call};
 use drives::record::LEVEL;
 use renderer::voice::{open, Card, Lent};
 use renderer::Edition;
-use tone::Voice;
+use std::iter::successors;
+use tone::{test_hum, Voice};
 
 /// Book K with a fade of 16 points.
 const BOOK: [i32; 11] = [2, 1, 0, 0, 16, 0, 16384, 16384, -16384, 16384, 16384];
@@ -102,8 +103,8 @@ fn a_tremble_inside_the_band_takes_no_fade() {
 
 /// The orders of request (b), the states being those after the hum's.
 fn test_drive() -> Drive {
-    let next = |state: &u32| Some(state.wrapping_mul(1_664_525).wrapping_add(1_013_904_223));
-    let states = std::iter::successors(Some(0), next).skip(1 + 6400);
+    let next = |state: &u32| Some(test_hum(*state, &mut [0]));
+    let states = successors(Some(test_hum(0, &mut [0; 6400])), next).skip(1);
     let order = |state: u32| {
         let rate = 1.0 + (state >> 24) as f32 / 64.0;
         match state % 2 {

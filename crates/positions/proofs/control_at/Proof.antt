@@ -3,19 +3,16 @@ use mathlib.Core.Path.{ap₂}
 use Prim.Native.Nat.{ℕ}
 use native.Mathlib.Omega.{arith}
 use borrow.Author.Tests.{ne-eqb}
-use Rattle.arith.proofs.Integers.{≤ℤ-trans, pos-≤ℤ}
 use Rattle.control.specs.declared.Glide.{Glide}
 use Rattle.control.specs.declared.Control.{Control}
 use Rattle.control.specs.Moves.{noFade}
 use Rattle.positions.specs.Inner.{rateAt, controlAt}
+use Rattle.positions.proofs.Glides.{rate-readable}
 use Rattle.positions.proofs.control_at.Statement.{statement}
 use Rattle.positions.proofs.control_at.Tie as tie
 
 rate-at-requires : tie.Need-rate-at-requires
-rate-at-requires c κs =
-    let p = c .pre in
-    let rates = p .1 in
-    (rates .start-size, rates .slope-size, p .2, ≤ℤ-trans (pos-≤ℤ (omega arith)) (rates .low (c .args .i) (p .2) (p .3)))
+rate-at-requires c κs = let p = c .pre in rate-readable (p .1) (c .args .i) (p .2) (p .3)
 
 glide-at-requires : tie.Need-glide-at-requires
 glide-at-requires c κs = let p = c .before .pre in (p .2, p .0 .glide-fits)

@@ -7,12 +7,11 @@ use native.Mathlib.Numerals.{add-one}
 use native.Mathlib.Omega.{arith}
 use lib.ListN.{length, length-set}
 use Rattle.arith.proofs.Tests.{test-holds}
-use Rattle.arith.proofs.Integers.{≤ℤ-trans, pos-≤ℤ}
 use Rattle.control.specs.declared.Control.{Control}
 use Rattle.control.specs.Inner.{inBand}
 use Rattle.positions.specs.Inner.{RatesOf, leftOf, rateAt, controlAt}
 use Rattle.positions.specs.Runs.{controlAfter}
-use Rattle.positions.proofs.Glides.{control-fits, control-none}
+use Rattle.positions.proofs.Glides.{rate-readable, control-fits, control-none}
 use Rattle.positions.proofs.Along.{Along, along-none, run-high, along-run}
 use Rattle.positions.proofs.steady_positions.Statement.{statement}
 use Rattle.positions.proofs.steady_positions.Tie as tie
@@ -111,9 +110,7 @@ add-rate-at : tie.Need-add-rate-at Inv-loop μ-loop
 add-rate-at c = omega (arith, near c)
 
 rate-at-requires : tie.Need-rate-at-requires Inv-loop μ-loop
-rate-at-requires c κs =
-    let low = rates-are (turn c) .low (suc (i (turn c))) (near c) (left c) in
-    rw (add-one (i (turn c))) (rates-are (turn c) .start-size, rates-are (turn c) .slope-size, near c, ≤ℤ-trans (pos-≤ℤ (omega arith)) low)
+rate-at-requires c κs = let a = turn c in rw (add-one (i a)) (rate-readable (rates-are a) (suc (i a)) (near c) (left c))
 
 in-band-requires : tie.Need-in-band-requires Inv-loop μ-loop
 in-band-requires c κs = search needs
