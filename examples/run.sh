@@ -50,10 +50,10 @@ built=$("$programs/tone" build "$book" "$hum" "$top" "$store")
 [[ $built =~ ^S\ ([0-9]+),\ T\ [0-9]+:\ ([0-9]+)\ words$ ]] || fail "tone build says: $built"
 samples=${BASH_REMATCH[1]} words=${BASH_REMATCH[2]}
 played=$("$programs/tone" play "$book" "$store" "$rate" "$drive" "$sound" --sample-rate "$hertz")
-[[ $played =~ ^([0-9]+)\ outputs,\ ([0-9]+)\ fades$ ]] || fail "tone play says: $played"
-outputs=${BASH_REMATCH[1]} fades=${BASH_REMATCH[2]}
+[[ $played =~ ^([0-9]+)\ outputs,\ ([0-9]+)\ fades,\ [0-9]+\ multiplies,\ ([0-9.]+)\ per\ output$ ]] || fail "tone play says: $played"
+outputs=${BASH_REMATCH[1]} fades=${BASH_REMATCH[2]} mean=${BASH_REMATCH[3]}
 
 printf '\nhum:   %s samples in %s\n' "$samples" "$hum"
 printf 'store: levels 0 to %s, %s words, in %s\n' "$top" "$words" "$store"
-printf 'drive: %s outputs of %s, %d.%02d seconds of sound at %s Hz, %s fades\n' "$outputs" "$drive" $((outputs / hertz)) $((outputs % hertz * 100 / hertz)) "$hertz" "$fades"
+printf 'drive: %s outputs of %s, %d.%02d seconds of sound at %s Hz, %s fades, %s multiplies per output\n' "$outputs" "$drive" $((outputs / hertz)) $((outputs % hertz * 100 / hertz)) "$hertz" "$fades" "$mean"
 printf 'Listen to %s\n' "$PWD/$sound"

@@ -13,7 +13,7 @@
  *   tone_check_store(store, store_words);           0: the store names its T
  *   tone_open(1.0f, store[TONE_STORE_WORD_TOP], voice, TONE_VOICE_WORDS);
  *   tone_glide(voice, TONE_VOICE_WORDS, 2.0f, 48000);
- *   tone_play(voice, .., book, .., store, .., out, out_count);
+ *   tone_play(voice, .., book, .., store, .., out, out_count, &multiplies);
  *
  * tone_numbers.h has the promise that every call keeps, the rules on pointers,
  * the numbers and the limits of book and store. On x86-64 tone_play takes some
@@ -141,10 +141,10 @@ uint32_t tone_glide(int32_t *voice, size_t voice_words, float rate, uint32_t cou
 uint32_t tone_seek(int32_t *voice, size_t voice_words, uint64_t position);
 
 /*
- * Fills the whole output with the voice's next samples. S and T are those of the
- * store's header. A count of 0 outputs is accepted and leaves the voice as it is.
- * The levels may hold anything: a word of level j beyond -2^(23+j)..2^(23+j) is
- * read as that limit.
+ * Fills the whole output with the voice's next samples, and counts the multiplies
+ * that this takes. S and T are those of the store's header. A count of 0 outputs
+ * is accepted and leaves the voice as it is. The levels may hold anything: a word
+ * of level j beyond -2^(23+j)..2^(23+j) is read as that limit.
  *
  * Where no fade runs and the rate asks for another level than the current one, a
  * fade to that level begins. Upwards a rate asks for the level of its octave. The
@@ -153,12 +153,20 @@ uint32_t tone_seek(int32_t *voice, size_t voice_words, uint64_t position);
  * which may lie several below. So a rate that trembles across an octave takes no
  * fade each time.
  *
+ * The multiply count is 2N for each level value made and 2B + 1 for each output. A
+ * point makes one level value, and in a fade two, to the fade's last point. So it
+ * is out_count x (4N + 2B + 1) for a block without fades, and never more than
+ * out_count x (8N + 2B + 1), which is below 2^29. The counts of plays add up: that
+ * of a play that is cut in two is the sum of the parts (theorems bounded, steady
+ * and multiplies-+, crates/multiplies/proofs/Multiplies.antt).
+ *
  * Numbers: 28, then 1 2 3 4 5 6 7 of the book, then 9 8 9 18 of the store, as
  *          tone_check_store gives them, then 13 of the voice, then 19, then
  *          14 15 16 17 of the voice, then 11.
- * Writes:  every output word, and the voice.
+ * Writes:  every output word, the voice, and the multiply count; a refused call
+ *          writes a multiply count of 0 and nothing else.
  *
- * Number, voice and output are those of playCrossing
+ * Number, voice, multiply count and output are those of playCrossing
  * (crates/marshal/specs/Calls.antt), over playAnswer
  * (crates/player/specs/Calls.antt).
  *
@@ -184,7 +192,8 @@ uint32_t tone_seek(int32_t *voice, size_t voice_words, uint64_t position);
 uint32_t tone_play(int32_t *voice, size_t voice_words,
                    const int32_t *book, size_t book_words,
                    const int32_t *store, size_t store_words,
-                   int16_t *out, size_t out_count);
+                   int16_t *out, size_t out_count,
+                   uint64_t *multiplies);
 
 #ifdef __cplusplus
 }

@@ -17,7 +17,8 @@
  * condition holds.
  *
  * A refused call writes nothing: voice, store and output are as they came. The
- * one exception is tone_open, which says what it writes then.
+ * exceptions are tone_open, which says what it writes then, and the multiply
+ * count of tone_play, which is then 0.
  *
  * No call allocates, prints, waits, keeps a pointer or has a state of its own.
  * Calls may run at the same time where none writes what another reads or
@@ -31,6 +32,7 @@
  *    for the whole count. This holds for a count of 0 as well: pass a pointer to
  *    some element.
  *  - An array that is not const overlaps no other array of the call.
+ * A pointer without a count is one element of such an array.
  *
  *
  * A BOOK AND A STORE

@@ -55,10 +55,11 @@ static void build(struct hum *hum, int32_t fade, const int16_t *samples, size_t 
 static void play(char letter, int32_t *voice, const struct hum *hum, size_t count)
 {
     int16_t out[MOST_PLAYED];
+    uint64_t multiplies;
     size_t k;
 
     must("tone_play", tone_play(voice, TONE_VOICE_WORDS, hum->book, BOOK_WORDS, hum->store, hum->store_words, out,
-                                count));
+                                count, &multiplies));
     printf("%c", letter);
     for (k = 0; k < count; k++)
         printf(" %d", out[k]);

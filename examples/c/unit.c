@@ -50,27 +50,31 @@ static void open_voice(int32_t *voice, float rate, const struct hum *hum)
     must("tone_open", tone_open(rate, (uint32_t)hum->store[TONE_STORE_WORD_TOP], voice, TONE_VOICE_WORDS));
 }
 
-static uint32_t play(int32_t *voice, const struct hum *hum, int16_t *out, size_t count)
+static uint32_t play(int32_t *voice, const struct hum *hum, int16_t *out, size_t count, uint64_t *multiplies)
 {
-    return tone_play(voice, TONE_VOICE_WORDS, hum->book, BOOK_WORDS, hum->store, hum->store_words, out, count);
+    return tone_play(voice, TONE_VOICE_WORDS, hum->book, BOOK_WORDS, hum->store, hum->store_words, out, count, multiplies);
 }
 
 /* Plays `count` outputs, `step` or fewer at a time, and prints them after the
- * case's letter. */
+ * case's letter, and the sum of their multiplies. */
 static void print_played(char letter, int32_t *voice, const struct hum *hum, size_t count, size_t step)
 {
     int16_t out[MOST_PLAYED];
+    uint64_t multiplies, sum = 0;
     size_t done, k;
 
-    for (done = 0; done < count; done += step)
-        must("tone_play", play(voice, hum, out + done, count - done < step ? count - done : step));
+    for (done = 0; done < count; done += step) {
+        must("tone_play", play(voice, hum, out + done, count - done < step ? count - done : step, &multiplies));
+        sum += multiplies;
+    }
     printf("%c", letter);
     for (k = 0; k < count; k++)
         printf(" %d", out[k]);
-    printf("\n");
+    printf("\n%lu multiplies\n", (unsigned long)sum);
 }
 
-/* However a drive is cut into plays, its samples are the same. */
+/* However a drive is cut into plays, its samples and the sum of its multiplies
+ * are the same. */
 static void case_b(void)
 {
     int32_t voice[TONE_VOICE_WORDS];
@@ -81,7 +85,8 @@ static void case_b(void)
     print_played('B', voice, &hum_b, 3, 1);
 }
 
-/* The jump crosses an octave: a fade of 4 points leads to level 1. */
+/* The jump crosses an octave: a fade of 4 points leads to level 1, and makes two
+ * level values at each. */
 static void case_c(void)
 {
     int32_t voice[TONE_VOICE_WORDS];
@@ -92,17 +97,19 @@ static void case_c(void)
     printf("level %ld is then current\n", (long)voice[TONE_WORD_OLD_LEVEL]);
 }
 
-/* A damaged voice is refused by its number, and nothing is written. */
+/* A damaged voice is refused by its number: nothing is written but a multiply
+ * count of 0. */
 static void refusal(void)
 {
     int32_t voice[TONE_VOICE_WORDS];
     int16_t out[2] = {77, 77};
+    uint64_t multiplies;
     uint32_t number;
 
     open_voice(voice, 1.0f, &hum_b);
     voice[TONE_WORD_POSITION + 1] = -1;
-    number = play(voice, &hum_b, out, 2);
-    printf("a voice beyond 2^60: number %lu\n", (unsigned long)number);
+    number = play(voice, &hum_b, out, 2, &multiplies);
+    printf("a voice beyond 2^60: number %lu, %lu multiplies\n", (unsigned long)number, (unsigned long)multiplies);
     printf("the output is %s\n", out[0] == 77 && out[1] == 77 ? "as it was" : "changed");
 }
 

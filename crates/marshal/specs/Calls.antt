@@ -36,17 +36,18 @@ returned voice a = crossed (a .number) (cond (eqb (a .number) 0) (wordsOf (a .vo
 unfoldable pub crossing : List ℤ → (Voice → Answer) → Crossed
 crossing voice call = cond (eqb (length voice) voiceLength) (returned voice (call (voiceOf voice))) (crossed lengthNumber voice)
 
--- what a play leaves: its number, the words of the voice and those of its output slice
+-- what a play leaves: its number, the words of the voice, its multiply count and the words of its output slice
 pub record PlayCrossed : Type 0 where
   pub number : ℕ
   pub voice : List ℤ
+  pub multiplies : ℕ
   pub words : List ℤ
 
-abbrev pub playCrossed : ℕ → List ℤ → List ℤ → PlayCrossed
-playCrossed n voice words = record { number = n; voice = voice; words = words }
+abbrev pub playCrossed : ℕ → List ℤ → ℕ → List ℤ → PlayCrossed
+playCrossed n voice m words = record { number = n; voice = voice; multiplies = m; words = words }
 
 unfoldable pub playCrossing : List ℤ → List ℤ → List ℤ → List ℤ → PlayCrossed
 playCrossing voice b store out =
     let a = playAnswer b store (voiceOf voice) out in
     let words = cond (eqb (a .number) 0) (wordsOf (a .voice)) voice in
-    cond (eqb (length voice) voiceLength) (playCrossed (a .number) words (a .words)) (playCrossed lengthNumber voice out)
+    cond (eqb (length voice) voiceLength) (playCrossed (a .number) words (a .multiplies) (a .words)) (playCrossed lengthNumber voice 0 out)

@@ -1,6 +1,6 @@
 // The player's calls over words: a voice is a slice of 95 of them (`words`). Each call reads the voice from them, is the player's call,
-// and writes the voice back. A refusal writes nothing, but that opening writes the zero record. Number 28 is for a voice slice of
-// another length, and comes before all others.
+// and writes the voice back. A refusal writes nothing, but that opening writes the zero record and play a multiply count of 0. Number 28
+// is for a voice slice of another length, and comes before all others.
 
 ghost use mathlib.Core.Path.{_≡_};
 ghost use lib.ListN.{length};
@@ -79,13 +79,28 @@ pub fn seek(voice: &mut [i32], position: u64) -> u32
     returned(voice, a)
 }
 
-// Fills the whole output slice.
-pub fn play(voice: &mut [i32], book: &[i32], store: &[i32], out: &mut [i16]) -> u32
-    ensures { λ r. ⌜ playCrossed r (now (voice .exit)) (now (out .exit)) ≡ playCrossing (now (voice .entry)) (now (book .entry)) (now (store .entry)) (now (out .entry)) ⌝ }
+// Fills the whole output slice, and writes the multiply count: 0 where the call is refused.
+pub fn play(
+    voice: &mut [i32],
+    book: &[i32],
+    store: &[i32],
+    out: &mut [i16],
+    multiplies: &mut u64,
+) -> u32
+    ensures { λ r. ⌜ playCrossed r (now (voice .exit)) (now (multiplies .exit)) (now (out .exit)) ≡ playCrossing (now (voice .entry)) (now (book .entry)) (now (store .entry)) (now (out .entry)) ⌝ }
 {
     if voice.len() != 95 {
+        *multiplies = 0;
         return 28;
     }
     let a = voice_of(voice).play(book, store, out);
-    returned(voice, a)
+    let v = a.voice;
+    *multiplies = a.multiplies;
+    returned(
+        voice,
+        Answer {
+            number: a.number,
+            voice: v,
+        },
+    )
 }

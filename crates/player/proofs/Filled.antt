@@ -21,6 +21,8 @@ use Rattle.decimation.specs.Decimation.{output}
 use Rattle.player.specs.Outputs.{nextVoice, voiceAfter, outputs}
 use Rattle.positions.specs.Runs.{controlAfter}
 use Rattle.points.specs.Runs.{runPoints}
+use Rattle.multiplies.specs.Inner.{runValues}
+use Rattle.multiplies.proofs.Multiplies.{values-+}
 use Rattle.player.specs.Inner.{lineOf}
 use Rattle.control.proofs.Kept.{moveGlide-valid, movePoint-valid, moveOutput-valid}
 use Rattle.player.proofs.Histories.{length-pushTwo}
@@ -182,6 +184,13 @@ module _ {b store : List ℤ} {v : Voice} {out₀ : List ℤ} {d : Control} {lin
               ∙ ap (λ o. overwrite o i (tabulate n (λ k. output b (part line₁ (126 - 2 * k) 81)))) (p .words)
               ∙ paste-run out₀ (outputs b store v (length out₀)) i n _ room (omega (arith, length-outputs b store v (length out₀))) output-is;
         }
+
+-- the level values of a run of n outputs more
+pub values-more : {b store : List ℤ} {v : Voice} {out₀ : List ℤ} {d : Control} {line out : List ℤ} {i : ℕ} → Filled b store v out₀ d line out i → (n : ℕ)
+    → let F = sizesOf b .fade in runValues F (v .control) i + runValues F d n ≡ runValues F (v .control) (i + n)
+values-more {b} {store} {v} {i = i} p n =
+    let F = sizesOf b .fade in
+    ap (λ c. runValues F (v .control) i + runValues F c n) (p .control ∙ control-after b store v i) ∙ sym (values-+ F (v .control) i n)
 
 -- ---- what the next run asks for
 

@@ -6,6 +6,7 @@ use Prim.Native.Nat.{ℕ}
 use lib.Dec.{eqb}
 use lib.IntN.{ℤ, pos}
 use lib.ListN.{length, replicate}
+use Rattle.book.specs.Book.{sizesOf}
 use Rattle.control.specs.declared.Card.{Card}
 use Rattle.player.specs.declared.Voice.{Voice}
 use Rattle.control.specs.declared.Order.{Order}
@@ -13,6 +14,7 @@ use Rattle.player.specs.declared.Answer.{Answer}
 use Rattle.control.specs.Rate.{rateOf}
 use Rattle.control.specs.Moves.{noGlide, noFade, freshControl, sought}
 use Rattle.control.specs.Orders.{ordered}
+use Rattle.multiplies.specs.Multiplies.{multiplies}
 use Rattle.player.specs.Outputs.{voiceAfter, outputs}
 use Rattle.refusals.specs.Refusals.{pointBound, openNumber, orderNumber, seekNumber, playNumber}
 
@@ -43,18 +45,22 @@ seekAnswer v P =
     let n = seekNumber (v .control) pointBound (v .history) P in
     answer n (cond (eqb n 0) (record { control = sought (v .control) P; history = v .history }) v)
 
--- what a play leaves: its number, the voice and the words of its output slice
+-- what a play leaves: its number, the voice, its multiply count and the words of its output slice
 pub record Played : Type 0 where
   pub number : ℕ
   pub voice : Voice
+  pub multiplies : ℕ
   pub words : List ℤ
 
-abbrev pub played : ℕ → Voice → List ℤ → Played
-played n v words = record { number = n; voice = v; words = words }
+abbrev pub played : ℕ → Voice → ℕ → List ℤ → Played
+played n v m words = record { number = n; voice = v; multiplies = m; words = words }
 
--- play of an output slice, lent a book and a store
+-- play of an output slice, lent a book and a store; a refused call's multiply count is 0
 unfoldable pub playAnswer : List ℤ → List ℤ → Voice → List ℤ → Played
 playAnswer b store v words =
     let n = playNumber b store (v .control) pointBound (v .history) (length words) in
     let count = length words in
-    played n (cond (eqb n 0) (voiceAfter b store v count) v) (cond (eqb n 0) (outputs b store v count) words)
+    played n
+    (cond (eqb n 0) (voiceAfter b store v count) v)
+    (cond (eqb n 0) (multiplies (sizesOf b) (v .control) count) 0)
+    (cond (eqb n 0) (outputs b store v count) words)

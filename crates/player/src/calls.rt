@@ -7,6 +7,7 @@ ghost use Rattle.refusals.specs.Refusals.{orderInputNumber};
 ghost use Rattle.player.specs.Calls.{openAnswer, orderAnswer, seekAnswer, played, playAnswer};
 ghost use Rattle.control.specs.Orders.{ordered};
 use crate::Answer;
+use crate::PlayAnswer;
 use crate::Voice;
 use crate::outputs::fill;
 use control::Card;
@@ -144,20 +145,20 @@ impl Voice {
         }
     }
 
-    // Fills the whole output slice from a store that was built by this book.
-    pub fn play(self, book: &[i32], store: &[i32], out: &mut [i16]) -> Answer
-        ensures { λ r. ⌜ played (r .number) (r .voice) (now (out .exit)) ≡ playAnswer (now (book .entry)) (now (store .entry)) self (now (out .entry)) ⌝ }
+    // Fills the whole output slice from a store that was built by this book, and counts the multiplies that this takes.
+    pub fn play(self, book: &[i32], store: &[i32], out: &mut [i16]) -> PlayAnswer
+        ensures { λ r. ⌜ played (r .number) (r .voice) (r .multiplies) (now (out .exit)) ≡ playAnswer (now (book .entry)) (now (store .entry)) self (now (out .entry)) ⌝ }
     {
         let c = self.control;
         let history = self.history;
         let number = play_number(c, history, book, store, out.len());
         if number != 0 {
-            return Answer {
+            return PlayAnswer {
                 number,
                 voice: self,
+                multiplies: 0,
             };
         }
-        let voice = fill(self, book, store, out);
-        Answer { number: 0, voice }
+        fill(self, book, store, out)
     }
 }

@@ -11,8 +11,15 @@ pub struct Voice {
     pub history: [i32; 81],
 }
 
-// What a call hands back: a refusal number or 0, and the voice.
+// What opening, an order and a seek hand back: a refusal number or 0, and the voice.
 pub struct Answer {
     pub number: u32,
     pub voice: Voice,
+}
+
+// What a play hands back: a refusal number or 0, the voice, and its multiply count, which is 0 where it is refused.
+pub struct PlayAnswer {
+    pub number: u32,
+    pub voice: Voice,
+    pub multiplies: u64,
 }

@@ -10,13 +10,15 @@ ghost use Rattle.book.specs.Book.{sizesOf};
 ghost use Rattle.book.specs.Check.{bookNumber};
 ghost use Rattle.store.specs.Store.{topLevel};
 ghost use Rattle.store.specs.Check.{storeNumber};
-ghost use Rattle.player.specs.Outputs.{voiceAfter, outputs};
+ghost use Rattle.player.specs.Calls.{played};
 ghost use Rattle.control.specs.Valid.{Valid};
 ghost use Rattle.values.specs.Layout.{LayoutOf};
 ghost use Rattle.windows.specs.Inner.{TableOf};
-ghost use Rattle.player.specs.Inner.{lineOf};
+ghost use Rattle.player.specs.Inner.{lineOf, acceptedPlay};
+use crate::PlayAnswer;
 use crate::Voice;
 use decimation::write_outputs;
+use multiplies::block_multiplies;
 use points::next_points;
 use values::layout::Layout;
 use values::layout::layout_of;
@@ -71,7 +73,7 @@ fn run_length(left: usize) -> usize
     64
 }
 
-// Fills the output slice with the help of a book's table, or of none, and hands back the voice after it.
+// Fills the output slice with the help of a book's table, or of none.
 fn fill_by(
     table: &[i64],
     v: Voice,
@@ -79,16 +81,16 @@ fn fill_by(
     store: &[i32],
     layout: Layout,
     out: &mut [i16],
-) -> Voice
+) -> PlayAnswer
     requires { ⌜ ((length (now table) ≡ 0 → ⊥) → TableOf (now book) (now table)) ⌝ }
-    requires { ⌜ LayoutOf (now book) (now store) (v .control .top) layout × Valid (sizesOf (now book) .fade) (v .control) × ((k : ℕ) → k < 81 → natAbs (at (v .history) k) ≤ 2 ^ 29) ⌝ }
-    ensures voice { λ r. ⌜ r ≡ voiceAfter (now (book .entry)) (now (store .entry)) v (length (now (out .entry))) ⌝ }
-    ensures words { λ r. ⌜ now (out .exit) ≡ outputs (now (book .entry)) (now (store .entry)) v (length (now (out .entry))) ⌝ }
+    requires { ⌜ LayoutOf (now book) (now store) (v .control .top) layout × Valid (sizesOf (now book) .fade) (v .control) × ((k : ℕ) → k < 81 → natAbs (at (v .history) k) ≤ 2 ^ 29) × (length (now out) ≤ 1048576) ⌝ }
+    ensures { λ r. ⌜ played (r .number) (r .voice) (r .multiplies) (now (out .exit)) ≡ acceptedPlay (now (book .entry)) (now (store .entry)) v (length (now (out .entry))) ⌝ }
 {
     let decimation = book::decimation_taps(book);
     let history = v.history;
     let mut control = v.control;
     let mut line = line_of(history);
+    let mut values = 0;
     let mut i = 0;
     while i < out.len() {
         let count = run_length(out.len() - i);
@@ -97,10 +99,15 @@ fn fill_by(
         write_outputs(book, decimation, &line, made, i, out);
         keep_newest(&mut line, 128 - 2 * made);
         control = r.control;
+        values += r.values;
         i += made;
     }
     let history = history_of(line);
-    Voice { control, history }
+    PlayAnswer {
+        number: 0,
+        voice: Voice { control, history },
+        multiplies: block_multiplies(layout.taps, values, decimation.len() - 1, out.len()),
+    }
 }
 
 // Whether to make a table: it has room for 832 impulses with a word a phase, and some 130 outputs pay for it.
@@ -114,12 +121,11 @@ fn table_pays(outputs: usize, phases: usize, taps: usize) -> bool
     phases * (taps + 1) <= 832
 }
 
-// Fills the output slice, and hands back the voice after it.
-pub(crate) fn fill(v: Voice, book: &[i32], store: &[i32], out: &mut [i16]) -> Voice
+// Fills the output slice.
+pub(crate) fn fill(v: Voice, book: &[i32], store: &[i32], out: &mut [i16]) -> PlayAnswer
     requires { ⌜ (bookNumber (now book) ≡ 0) × (storeNumber (now store) ≡ 0) × (v .control .top ≡ topLevel (now store)) ⌝ }
-    requires { ⌜ Valid (sizesOf (now book) .fade) (v .control) × ((k : ℕ) → k < 81 → natAbs (at (v .history) k) ≤ 2 ^ 29) ⌝ }
-    ensures voice { λ r. ⌜ r ≡ voiceAfter (now (book .entry)) (now (store .entry)) v (length (now (out .entry))) ⌝ }
-    ensures words { λ r. ⌜ now (out .exit) ≡ outputs (now (book .entry)) (now (store .entry)) v (length (now (out .entry))) ⌝ }
+    requires { ⌜ Valid (sizesOf (now book) .fade) (v .control) × ((k : ℕ) → k < 81 → natAbs (at (v .history) k) ≤ 2 ^ 29) × (length (now out) ≤ 1048576) ⌝ }
+    ensures { λ r. ⌜ played (r .number) (r .voice) (r .multiplies) (now (out .exit)) ≡ acceptedPlay (now (book .entry)) (now (store .entry)) v (length (now (out .entry))) ⌝ }
 {
     let layout = layout_of(book, store);
     let phases = layout.phases;

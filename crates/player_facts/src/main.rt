@@ -1,6 +1,6 @@
 // Facts of the player that documents 01 and 02 state and do not star: glides, limits, the levels along a glide and the ends of their bands,
-// and every number of every call, with the first of two that hold at once. Of a number, a line each: what is called, the number, and whether
-// the voice came back as it was.
+// the multiply counts of outputs, and every number of every call, with the first of two that hold at once. Of a number, a line each: what is
+// called, the number, whether the voice came back as it was, and of a play its multiply count.
 use control::Card;
 use control::Order;
 use player::Answer;
@@ -14,6 +14,47 @@ const K: [i32; 11] = [2, 1, 0, 0, 1, 0, 16384, 16384, -16384, 16384, 16384];
 // K with a fade of 4 points.
 const SLOW: [i32; 11] = [2, 1, 0, 0, 4, 0, 16384, 16384, -16384, 16384, 16384];
 
+// K with a fade of 3 points, which ends inside an output.
+const ODD: [i32; 11] = [2, 1, 0, 0, 3, 0, 16384, 16384, -16384, 16384, 16384];
+
+// The sizes of source document 002, N = 12 and B = 3, with a fade of 4 points: the sample next to P, and a mean of three points.
+const TWELVE: [i32; 34] = [
+    12,
+    1,
+    0,
+    3,
+    4,
+    0,
+    0,
+    0,
+    0,
+    0,
+    0,
+    16384,
+    0,
+    0,
+    0,
+    0,
+    0,
+    0,
+    0,
+    0,
+    0,
+    0,
+    16384,
+    -16384,
+    0,
+    0,
+    0,
+    0,
+    0,
+    16384,
+    8192,
+    4096,
+    0,
+    0,
+];
+
 // A silent store of 3 samples with top level 1: S, T, two lengths, 3 + 2 words.
 const SILENT: [i32; 9] = [3, 1, 3, 2, 0, 0, 0, 0, 0];
 
@@ -26,15 +67,20 @@ const FAR: u64 = 1152921504606846977;
 // A point past the loudest, 2^29.
 const LOUD: u64 = 536870913;
 
-fn line(label: &[u8], given: Voice, a: Answer) {
-    let v = a.voice;
+// A number, and whether the voice came back as it was.
+fn number(label: &[u8], given: Voice, number: u32, v: Voice) {
     io::write_all(1, label);
-    print::next_number(a.number);
+    print::next_number(number);
     if damage::same(given, v) {
         io::write_all(1, b" kept");
     } else {
         io::write_all(1, b" moved");
     }
+}
+
+fn line(label: &[u8], given: Voice, a: Answer) {
+    let v = a.voice;
+    number(label, given, a.number, v);
     print::end_line();
 }
 
@@ -168,6 +214,36 @@ fn bands() {
     band(b"band of 4", 16.0, 15.0, 14.999999);
 }
 
+// One output more, with its multiply count.
+fn count_after(v: Voice, book: &[i32]) -> Voice {
+    let mut out = [0i16; 1];
+    let a = v.play(book, &SILENT, &mut out);
+    print::next_decimal(a.multiplies);
+    a.voice
+}
+
+fn two_counts(v: Voice, book: &[i32]) -> Voice {
+    count_after(count_after(v, book), book)
+}
+
+// Two outputs, and four more after a jump across the octave; then these four in one play.
+fn counts(label: &[u8], book: &[i32]) {
+    let mut out = [0i16; 4];
+    io::write_all(1, label);
+    let v = two_counts(fresh(), book).order(Order::Jump(2.0)).voice;
+    two_counts(two_counts(v, book), book);
+    print::next_decimal(v.play(book, &SILENT, &mut out).multiplies);
+    print::end_line();
+}
+
+// Fades that end inside an output and with it.
+fn all_counts() {
+    counts(b"multiplies, F 1", &K);
+    counts(b"multiplies, F 3", &ODD);
+    counts(b"multiplies, F 4", &SLOW);
+    counts(b"multiplies, N 12, B 3", &TWELVE);
+}
+
 fn jumped(label: &[u8], v: Voice, rate: f32) {
     line(label, v, v.order(Order::Jump(rate)));
 }
@@ -181,7 +257,11 @@ fn sought(label: &[u8], v: Voice, position: u64) {
 }
 
 fn played(label: &[u8], v: Voice, book: &[i32], store: &[i32], out: &mut [i16]) {
-    line(label, v, v.play(book, store, out));
+    let a = v.play(book, store, out);
+    let w = a.voice;
+    number(label, v, a.number, w);
+    print::next_decimal(a.multiplies);
+    print::end_line();
 }
 
 fn orders() {
@@ -398,6 +478,7 @@ fn main() {
     glide();
     glides_past_the_band();
     bands();
+    all_counts();
     orders();
     seeks();
     state(b"fresh", fresh());

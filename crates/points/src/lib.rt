@@ -9,6 +9,7 @@ ghost use Rattle.values.specs.Layout.{LayoutOf};
 ghost use Rattle.windows.specs.Inner.{TableOf};
 ghost use Rattle.control.specs.Valid.{Valid};
 ghost use Rattle.positions.specs.Runs.{controlAfter};
+ghost use Rattle.multiplies.specs.Inner.{runValues};
 ghost use Rattle.points.specs.Points.{point};
 ghost use Rattle.points.specs.Runs.{runPoints};
 use crate::point::point_of;
@@ -16,7 +17,7 @@ use control::Control;
 use control::moves::glide_moved;
 use control::moves::point_moved;
 use control::moves::point_plan;
-use positions::Run;
+use multiplies::values_made;
 use positions::steady_positions;
 use values::layout::Layout;
 use values::layout::level_words;
@@ -24,10 +25,17 @@ use windows::window::steady_points;
 
 mod point; // a point from its plan
 
+// What the points of some outputs leave: the control, how many outputs they are of, and how many level values they took.
+pub struct PointRun {
+    pub control: Control,
+    pub made: usize,
+    pub values: usize,
+}
+
 // Writes the two points of one output, whatever they need.
-fn one_output(line: &mut [i64], c: Control, book: &[i32], store: &[i32], layout: Layout) -> Run
+fn one_output(line: &mut [i64], c: Control, book: &[i32], store: &[i32], layout: Layout) -> PointRun
     requires { ⌜ LayoutOf (now book) (now store) (c .top) layout × Valid (layout .fade) c × (length (now line) ≡ 209) ⌝ }
-    ensures { λ r. ⌜ (r .made ≡ 1) × (r .control ≡ controlAfter (layout .fade) c 1) × (now (line .exit) ≡ overwrite (now (line .entry)) 126 (runPoints (point (now (book .entry)) (now (store .entry))) (layout .fade) c 1)) ⌝ }
+    ensures { λ r. ⌜ (r .made ≡ 1) × (r .control ≡ controlAfter (layout .fade) c 1) × (r .values ≡ runValues (layout .fade) c 1) × (now (line .exit) ≡ overwrite (now (line .entry)) 126 (runPoints (point (now (book .entry)) (now (store .entry))) (layout .fade) c 1)) ⌝ }
 {
     let fade = layout.fade;
     let one = glide_moved(c);
@@ -51,7 +59,12 @@ fn one_output(line: &mut [i64], c: Control, book: &[i32], store: &[i32], layout:
     line[126] = second as i64;
     line[127] = first as i64;
     let control = point_moved(two, fade);
-    Run { control, made: 1 }
+    let values = values_made(p.step) + values_made(q.step);
+    PointRun {
+        control,
+        made: 1,
+        values,
+    }
 }
 
 // Writes the points of up to `count` outputs that need no fade, none where the first needs one.
@@ -63,29 +76,38 @@ fn steady_run(
     store: &[i32],
     layout: Layout,
     table: &[i64],
-) -> Run
+) -> PointRun
     requires { ⌜ LayoutOf (now book) (now store) (c .top) layout × Valid (layout .fade) c × (c .fade .step ≡ 0) × (length (now line) ≡ 209) × (count ≤ 64) ⌝ }
     requires { ⌜ ((length (now table) ≡ 0 → ⊥) → TableOf (now book) (now table)) ⌝ }
-    ensures { λ r. ⌜ (r .made ≤ count) × (r .control ≡ controlAfter (layout .fade) c (r .made)) ⌝ }
+    ensures { λ r. ⌜ (r .made ≤ count) × (r .control ≡ controlAfter (layout .fade) c (r .made)) × (r .values ≡ runValues (layout .fade) c (r .made)) ⌝ }
     ensures points { λ r. ⌜ now (line .exit) ≡ overwrite (now (line .entry)) (128 - 2 * r .made) (runPoints (point (now (book .entry)) (now (store .entry))) (layout .fade) c (r .made)) ⌝ }
 {
     let mut positions = [0u64; 128];
     let r = steady_positions(c, layout.fade, count, &mut positions);
+    let control = r.control;
     let made = r.made;
+    let values = 2 * made;
     if made == 0 {
-        return r;
+        return PointRun {
+            control,
+            made,
+            values,
+        };
     }
-    let end = 2 * made;
     steady_points(
         line,
-        &positions[0..end],
+        &positions[0..values],
         book,
         store,
         layout,
         c.fade.from,
         table,
     );
-    r
+    PointRun {
+        control,
+        made,
+        values,
+    }
 }
 
 // Writes the points of the next outputs, up to `count` of them: a run without a fade, or one output.
@@ -97,10 +119,10 @@ pub fn next_points(
     store: &[i32],
     layout: Layout,
     table: &[i64],
-) -> Run
+) -> PointRun
     requires { ⌜ LayoutOf (now book) (now store) (c .top) layout × Valid (layout .fade) c × (length (now line) ≡ 209) × (1 ≤ count) × (count ≤ 64) ⌝ }
     requires { ⌜ ((length (now table) ≡ 0 → ⊥) → TableOf (now book) (now table)) ⌝ }
-    ensures { λ r. ⌜ (1 ≤ r .made) × (r .made ≤ count) × (r .control ≡ controlAfter (layout .fade) c (r .made)) ⌝ }
+    ensures { λ r. ⌜ (1 ≤ r .made) × (r .made ≤ count) × (r .control ≡ controlAfter (layout .fade) c (r .made)) × (r .values ≡ runValues (layout .fade) c (r .made)) ⌝ }
     ensures points { λ r. ⌜ now (line .exit) ≡ overwrite (now (line .entry)) (128 - 2 * r .made) (runPoints (point (now (book .entry)) (now (store .entry))) (layout .fade) c (r .made)) ⌝ }
 {
     if c.fade.step != 0 {

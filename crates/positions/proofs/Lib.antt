@@ -1,3 +1,4 @@
+pub mod Runs
 pub mod Glides
 pub mod Steady
 pub mod Along

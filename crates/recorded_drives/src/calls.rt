@@ -57,9 +57,11 @@ fn sought(v: Voice, position: u64) -> Voice {
 // A play into the whole slice.
 fn filled(v: Voice, book: &[i32], store: &[i32], out: &mut [i16]) -> Voice {
     lines::number(b"play", out.len() as u64);
-    let w = answered(v.play(book, store, out));
+    let a = v.play(book, store, out);
+    lines::number(b"number", a.number as u64);
+    lines::number(b"multiplies", a.multiplies);
     lines::samples(b"out", out);
-    w
+    a.voice
 }
 
 // A play of at most 200 outputs, whose words are 77 before it.

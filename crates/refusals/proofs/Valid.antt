@@ -114,6 +114,10 @@ module _ (F T n bound : ℕ) (c : Control) (h : List ℤ) (e : playStateNumber F
   pub history-of : Within bound h
   history-of = history-right bound h (condition-fails 16 _ (none-second (refuse 16 (positionWrong (c .position))) _ position-on))
 
+  pub count-of : n ≤ 1048576
+  unfolding outputCountWrong
+  count-of = ltb-false _ _ (condition-fails 10 _ (none-second (lateNumber c bound h) _ late-on))
+
 -- ---- the numbers of a valid control, over a history within its bound
 
 module _ {F : ℕ} {c : Control} (s : Valid F c) where

@@ -47,10 +47,16 @@ pub extern "C" fn tone_seek(voice: &mut [i32], position: u64) -> u32
     marshal::seek(voice, position)
 }
 
-// Fills the whole output slice.
+// Fills the whole output slice, and writes the multiply count: 0 where the call is refused.
 #[no_mangle]
-pub extern "C" fn tone_play(voice: &mut [i32], book: &[i32], store: &[i32], out: &mut [i16]) -> u32
-    ensures { λ r. ⌜ playCrossed r (now (voice .exit)) (now (out .exit)) ≡ playCrossing (now (voice .entry)) (now (book .entry)) (now (store .entry)) (now (out .entry)) ⌝ }
+pub extern "C" fn tone_play(
+    voice: &mut [i32],
+    book: &[i32],
+    store: &[i32],
+    out: &mut [i16],
+    multiplies: &mut u64,
+) -> u32
+    ensures { λ r. ⌜ playCrossed r (now (voice .exit)) (now (multiplies .exit)) (now (out .exit)) ≡ playCrossing (now (voice .entry)) (now (book .entry)) (now (store .entry)) (now (out .entry)) ⌝ }
 {
-    marshal::play(voice, book, store, out)
+    marshal::play(voice, book, store, out, multiplies)
 }

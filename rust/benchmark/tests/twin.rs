@@ -78,9 +78,14 @@ impl Pair {
     fn play(&mut self, book: &[i32], store: &[i32], outputs: usize) -> u32 {
         let mut out = vec![9; outputs];
         let mut twin_out = out.clone();
-        let number = archive::play(&mut self.words, book, store, &mut out);
-        let twin_number = self.twin.play(book, store, &mut twin_out);
-        assert_eq!(number, twin_number, "play {outputs}");
+        let mut multiplies = 77;
+        let number = archive::play(&mut self.words, book, store, &mut out, &mut multiplies);
+        let answer = match number {
+            0 => Ok(multiplies),
+            _ => Err(number),
+        };
+        let twin_answer = self.twin.play(book, store, &mut twin_out);
+        assert_eq!(answer, twin_answer, "play {outputs}");
         assert!(out == twin_out, "outputs of play {outputs}");
         self.same();
         number

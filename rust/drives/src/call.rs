@@ -4,7 +4,7 @@
 use crate::tally::Kind;
 use crate::EDITION;
 use renderer::exact;
-use renderer::voice::{order, play, seek, Lent, Order, Voice};
+use renderer::voice::{order, play, seek, Lent, Order, Played, Voice};
 use renderer::Edition;
 use std::fmt;
 
@@ -90,8 +90,9 @@ impl Call {
         }
     }
 
-    /// The renderer's number and voice; `out` is the output slice of a play.
-    pub fn rendered(self, voice: &Voice, lent: &Lent, out: &mut [i16]) -> (u32, Voice) {
+    /// The renderer's number, voice and multiply count, which is 0 but for a play;
+    /// `out` is the output slice of a play.
+    pub fn rendered(self, voice: &Voice, lent: &Lent, out: &mut [i16]) -> Played {
         self.rendered_at(EDITION, voice, lent, out)
     }
 
@@ -102,15 +103,17 @@ impl Call {
         voice: &Voice,
         lent: &Lent,
         out: &mut [i16],
-    ) -> (u32, Voice) {
-        match self {
+    ) -> Played {
+        let (number, voice) = match self {
             Call::Jump(rate) => order(edition, voice, Order::Jump(rate)),
             Call::Glide(rate, count) => order(edition, voice, Order::Glide(rate, count.into())),
             Call::Seek(position) => seek(edition, voice, position),
-            Call::Play(_) => {
-                let played = play(edition, voice, lent, out);
-                (played.number, played.voice)
-            }
+            Call::Play(_) => return play(edition, voice, lent, out),
+        };
+        Played {
+            number,
+            voice,
+            multiplies: 0,
         }
     }
 }

@@ -1,6 +1,6 @@
 //! Random drives through the archives and through a renderer that was written
-//! from the documents alone: every number, voice word, store word and sample
-//! must be equal, and a refused call must leave everything as it was.
+//! from the documents alone: every number, voice word, store word, sample and
+//! multiply count must be equal, and a refused call must leave everything as it was.
 //!
 //! `cargo test -p drives` is the short run, `cargo run --release -p drives` prints
 //! its table and takes longer ones. [`run::run`] is the whole comparison; its plan
@@ -33,4 +33,4 @@ use renderer::Edition;
 
 /// The edition of the product: document 01 with the requests of document 02 up to
 /// this one.
-pub const EDITION: Edition = Edition::D;
+pub const EDITION: Edition = Edition::E;

@@ -31,6 +31,8 @@ pub struct Answered {
     pub call: Call,
     /// Its number.
     pub number: u32,
+    /// Of a play, its multiply count; else 0.
+    pub multiplies: u64,
     /// Of a play, the output slice afterwards.
     pub out: Vec<i16>,
 }
@@ -90,9 +92,14 @@ fn small_calls(rng: &mut Rng, setting: &Setting, rate: f32) -> Vec<Call> {
 
 fn answer(voice: &mut Voice, lent: &Lent, call: Call) -> Answered {
     let mut out = vec![BEFORE; call.outputs()];
-    let (number, next) = call.rendered(voice, lent, &mut out);
-    *voice = next;
-    Answered { call, number, out }
+    let rendered = call.rendered(voice, lent, &mut out);
+    *voice = rendered.voice;
+    Answered {
+        call,
+        number: rendered.number,
+        multiplies: rendered.multiplies,
+        out,
+    }
 }
 
 /// The small drive of a seed: N and M at most 4, A and B at most 3, F at most 8,
@@ -143,7 +150,10 @@ impl Display for Answered {
         }
         writeln!(f, "number {}", self.number)?;
         match self.call {
-            Call::Play(_) => f.write_str(&line("out", &self.out)),
+            Call::Play(_) => {
+                writeln!(f, "multiplies {}", self.multiplies)?;
+                f.write_str(&line("out", &self.out))
+            }
             _ => Ok(()),
         }
     }
@@ -151,8 +161,8 @@ impl Display for Answered {
 
 /// Lines "drive", "book", "samples", "top", then "build" with the words of the
 /// store, "open", "jump", "glide", "seek" and "play", each call followed by
-/// "number", a building's number by "store" and a play's by "out"; "voice" is the
-/// last. Rates are f32 bits in hexadecimal.
+/// "number", a building's number by "store" and a play's by "multiplies" and "out";
+/// "voice" is the last. Rates are f32 bits in hexadecimal.
 impl Display for SmallDrive {
     fn fmt(&self, f: &mut fmt::Formatter<'_>) -> fmt::Result {
         writeln!(f, "drive {}", self.seed)?;

@@ -109,13 +109,22 @@ fn store_pattern(count: usize) -> impl Iterator<Item = i32> {
     (0..count).map(|at| (at as u32 + 1).wrapping_mul(2_654_435_769) as i32)
 }
 
-fn archive_call(voice: &mut [i32], lent: &Lent, call: Call, out: &mut [i16]) -> u32 {
-    match call {
+/// What a multiply count is before a call: no play has so many.
+const NO_COUNT: u64 = u64::MAX / 7;
+
+/// The archive's number and, of a play, its multiply count; else 0.
+fn archive_call(voice: &mut [i32], lent: &Lent, call: Call, out: &mut [i16]) -> (u32, u64) {
+    let number = match call {
         Call::Jump(rate) => archive::jump(voice, rate),
         Call::Glide(rate, count) => archive::glide(voice, rate, count),
         Call::Seek(position) => archive::seek(voice, position),
-        Call::Play(_) => archive::play(voice, lent.book, lent.store, out),
-    }
+        Call::Play(_) => {
+            let mut multiplies = NO_COUNT;
+            let number = archive::play(voice, lent.book, lent.store, out, &mut multiplies);
+            return (number, multiplies);
+        }
+    };
+    (number, 0)
 }
 
 /// The two sides, and what was seen of them.
@@ -210,12 +219,14 @@ impl Sides {
         let count = call.outputs();
         let mut expected: Vec<i16> = out_pattern(count).collect();
         let given = voice_of(voice);
-        let (number, next) = call.rendered(&given, lent, &mut expected);
+        let rendered = call.rendered(&given, lent, &mut expected);
+        let (number, next) = (rendered.number, rendered.voice);
         let after = words_of(&next);
         let mut words = Guarded::new(voice.iter().copied(), -77);
         let mut out = Guarded::new(out_pattern(count), 7777);
-        let got = archive_call(words.inner_mut(), lent, call, out.inner_mut());
+        let (got, multiplies) = archive_call(words.inner_mut(), lent, call, out.inner_mut());
         same("number", number, got)?;
+        same("multiplies", rendered.multiplies, multiplies)?;
         same_words(|at| format!("output {at}"), &expected, out.inner())?;
         same_words(word_name, &after, words.inner())?;
         words.intact()?;
@@ -224,8 +235,10 @@ impl Sides {
             self.tally.note_samples(&expected);
             if count > 0 {
                 self.tally.note_band(&given, &next);
+                self.tally.note_multiplies(lent.book, count, multiplies);
             }
         } else {
+            same("multiplies of a refusal", 0, multiplies)?;
             let left = out_pattern(count).eq(out.inner().iter().copied());
             same("outputs left alone by a refusal", true, left)?;
             same("voice left alone by a refusal", true, *voice == after)?;
@@ -253,7 +266,7 @@ impl Sides {
         let opened = archive::open(rate, top, words.inner_mut());
         same("number of an opening", VOICE_LENGTH, opened)?;
         let got = archive_call(words.inner_mut(), lent, call, out.inner_mut());
-        same("number", VOICE_LENGTH, got)?;
+        same("number and multiplies", (VOICE_LENGTH, 0), got)?;
         let words_left = store_pattern(length).eq(words.inner().iter().copied());
         let out_left = out_pattern(count).eq(out.inner().iter().copied());
         same("slices left alone", (true, true), (words_left, out_left))?;

@@ -1,5 +1,5 @@
 //! Which numbers were seen at which call, how often, and what was seen of the
-//! band in which a level stays.
+//! band in which a level stays and of the multiply counts of plays.
 
 use crate::EDITION;
 use renderer::voice::{plain_asked_level, Voice};
@@ -113,12 +113,36 @@ impl Band {
     }
 }
 
+/// Accepted plays of some outputs, by their multiply count.
+#[derive(Clone, Copy, Debug, Default)]
+pub struct Multiplies {
+    /// 4N + 2B + 1 for each output: no fade.
+    pub least: u64,
+    /// 8N + 2B + 1 for each output: nothing but fades.
+    pub most: u64,
+    /// Between the two.
+    pub between: u64,
+    /// An odd count of level values: a fade began or ended inside an output.
+    pub odd: u64,
+}
+
+impl Multiplies {
+    fn add(&mut self, other: &Multiplies) {
+        self.least += other.least;
+        self.most += other.most;
+        self.between += other.between;
+        self.odd += other.odd;
+    }
+}
+
 /// Counts of a run.
 #[derive(Clone, Debug)]
 pub struct Tally {
     counts: [[u64; NUMBERS]; KINDS.len()],
     /// The bands of levels 1 to 4.
     pub bands: [Band; 4],
+    /// Plays by their multiply count.
+    pub multiplies: Multiplies,
     /// Of play's 13s, those for a T above 4. The others are for a level above T.
     pub tops_above_4: u64,
     /// Samples compared.
@@ -136,6 +160,7 @@ impl Default for Tally {
         Tally {
             counts: [[0; NUMBERS]; KINDS.len()],
             bands: [Band::default(); 4],
+            multiplies: Multiplies::default(),
             tops_above_4: 0,
             samples: 0,
             telling_samples: 0,
@@ -173,6 +198,18 @@ impl Tally {
         }
     }
 
+    /// Counts an accepted play of some outputs by its multiply count.
+    pub fn note_multiplies(&mut self, book: &[i32], outputs: usize, multiplies: u64) {
+        let (value, outputs) = (2 * book[0] as u64, outputs as u64);
+        let least = outputs * (2 * value + 2 * book[3] as u64 + 1);
+        // Level values beside those of points without a fade.
+        let more = (multiplies - least) / value;
+        self.multiplies.least += u64::from(more == 0);
+        self.multiplies.most += u64::from(more == 2 * outputs);
+        self.multiplies.between += u64::from(0 < more && more < 2 * outputs);
+        self.multiplies.odd += more % 2;
+    }
+
     /// How often a call gave a number.
     pub fn count(&self, kind: Kind, number: u32) -> u64 {
         self.counts[kind as usize][number as usize]
@@ -188,6 +225,7 @@ impl Tally {
         for (band, more) in self.bands.iter_mut().zip(&other.bands) {
             band.add(more);
         }
+        self.multiplies.add(&other.multiplies);
         self.tops_above_4 += other.tops_above_4;
         self.samples += other.samples;
         self.telling_samples += other.telling_samples;
@@ -210,8 +248,9 @@ impl Tally {
         self.count(Kind::Play, 13) - self.tops_above_4
     }
 
-    /// What a drive can show of bands, by name, with how often it was seen.
-    fn bands_seen(&self) -> Vec<(String, u64)> {
+    /// What plays can show of bands and multiplies, by name, with how often it was
+    /// seen.
+    fn shown(&self) -> Vec<(String, u64)> {
         let named = |(at, band): (usize, &Band)| {
             let level = at + 1;
             [
@@ -220,7 +259,16 @@ impl Tally {
                 (format!("level {level} left just below it"), band.left),
             ]
         };
-        self.bands.iter().enumerate().flat_map(named).collect()
+        let multiplies = [
+            ("the least multiplies", self.multiplies.least),
+            ("the most multiplies", self.multiplies.most),
+            ("multiplies between these", self.multiplies.between),
+            ("an odd count of level values", self.multiplies.odd),
+        ];
+        let bands = self.bands.iter().enumerate().flat_map(named);
+        bands
+            .chain(multiplies.map(|(what, count)| (what.to_string(), count)))
+            .collect()
     }
 
     /// What the calls can give and was not seen, as "call number", and what plays
@@ -241,8 +289,8 @@ impl Tally {
         for (reason, _) in play_13.iter().filter(|(_, count)| *count == 0) {
             missing.push(format!("play 13 {reason}"));
         }
-        let bands = self.bands_seen().into_iter();
-        missing.extend(bands.filter(|(_, count)| *count == 0).map(|(what, _)| what));
+        let shown = self.shown().into_iter();
+        missing.extend(shown.filter(|(_, count)| *count == 0).map(|(what, _)| what));
         missing
     }
 
@@ -271,7 +319,7 @@ impl Tally {
             self.tops_above_4,
             self.levels_above_top()
         ));
-        for (what, count) in self.bands_seen() {
+        for (what, count) in self.shown() {
             text.push_str(&format!("{what}: {count}\n"));
         }
         text.push_str(&format!(
@@ -308,6 +356,12 @@ mod tests {
             left: 1,
         };
         tally.bands = [bands; 4];
+        tally.multiplies = Multiplies {
+            least: 1,
+            most: 1,
+            between: 1,
+            odd: 1,
+        };
         assert_eq!(tally.not_seen(), ["seek 12", "play 13 for T"]);
         let mut more = Tally::default();
         more.note(Kind::Seek, 12);
@@ -320,7 +374,11 @@ mod tests {
         assert!(tally.not_seen().is_empty());
         assert_eq!(tally.accepted(), KINDS.len() as u64);
         tally.bands[1].left = 0;
-        assert_eq!(tally.not_seen(), ["level 2 left just below it"]);
+        tally.multiplies.most = 0;
+        assert_eq!(
+            tally.not_seen(),
+            ["level 2 left just below it", "the most multiplies"]
+        );
     }
 
     #[test]
@@ -341,5 +399,17 @@ mod tests {
         assert_eq!((band.held, band.at_end, band.left), (2, 1, 1));
         let others = tally.bands[1..].iter();
         assert_eq!(others.map(|band| band.held + band.left).sum::<u64>(), 0);
+    }
+    #[test]
+    fn plays_are_counted_by_their_multiplies() {
+        // N 2 and B 3: 15 for an output, and 4 for each level value more.
+        let book = [2, 1, 0, 3, 5];
+        let mut tally = Tally::default();
+        for multiplies in [45, 49, 61, 65, 69] {
+            tally.note_multiplies(&book, 3, multiplies);
+        }
+        let seen = tally.multiplies;
+        assert_eq!((seen.least, seen.most, seen.between), (1, 1, 3));
+        assert_eq!(seen.odd, 2);
     }
 }

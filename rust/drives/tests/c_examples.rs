@@ -78,18 +78,39 @@ fn cases_b_and_c() -> [String; 3] {
     [printed('B'), printed('C'), level]
 }
 
+/// What plays of so many outputs after a jump take, as a line.
+fn multiplies(book: &[i32], samples: &[i16], jump: f32, plays: &[usize]) -> String {
+    let store = store_of(book, samples, 1);
+    let (_, mut voice) = order(EDITION, &opened(), Order::Jump(jump));
+    let mut sum = 0;
+    for outputs in plays {
+        let played = play(EDITION, &voice, &lent(book, &store), &mut vec![0; *outputs]);
+        voice = played.voice;
+        sum += played.multiplies;
+    }
+    format!("{sum} multiplies\n")
+}
+
 #[test]
 fn unit() {
     let [b, c, level] = cases_b_and_c();
     let k = book_k(1, 16384, 16384);
     let store = store_of(&k, &[0, 1000, 2000], 1);
+    // B's voice is opened at its rate, so it takes no fade
+    let b_whole = multiplies(&k, &[0, 1000, 2000], 1.0, &[3]);
+    let b_cut = multiplies(&k, &[0, 1000, 2000], 1.0, &[1, 1, 1]);
+    let c_whole = multiplies(&book_k(4, 16384, 16384), &[0, 1000, 0, 1000], 2.0, &[2]);
     let mut damaged = opened();
     damaged.position |= 0xffff_ffff << 32;
     let mut out = [77; 2];
-    let number = play(EDITION, &damaged, &lent(&k, &store), &mut out).number;
+    let refused = play(EDITION, &damaged, &lent(&k, &store), &mut out);
     assert_eq!(out, [77; 2]);
-    let refusal = format!("a voice beyond 2^60: number {number}\nthe output is as it was\n");
-    assert_eq!(expected("unit"), [b.clone(), b, c, level, refusal].concat());
+    let refusal = format!(
+        "a voice beyond 2^60: number {}, {} multiplies\nthe output is as it was\n",
+        refused.number, refused.multiplies
+    );
+    let text = [b.clone(), b_whole, b, b_cut, c, c_whole, level, refusal];
+    assert_eq!(expected("unit"), text.concat());
 }
 
 #[test]

@@ -28,13 +28,25 @@ fn random_drives() {
     }
 }
 
-/// A list through the archive: each call's number, all samples, the end voice.
-fn archive_list(setting: &Setting, rate: f32, calls: &[Call]) -> (Vec<u32>, Vec<i16>, Words) {
+/// What a list of calls leaves.
+struct Heard {
+    /// Each call's number.
+    numbers: Vec<u32>,
+    /// All samples.
+    samples: Vec<i16>,
+    /// The sum of the plays' multiply counts.
+    multiplies: u64,
+    /// The voice at the end.
+    voice: Words,
+}
+
+/// A list through the archive.
+fn archive_list(setting: &Setting, rate: f32, calls: &[Call]) -> Heard {
     let (book, samples, top) = (&setting.book, &setting.samples, setting.top as u32);
     let mut store = vec![0; store_words(samples.len(), top).unwrap()];
     build(book, samples, top, &mut store).unwrap();
     let mut voice = Voice::open(rate, top).unwrap();
-    let (mut numbers, mut played) = (Vec::new(), Vec::new());
+    let (mut numbers, mut played, mut multiplies) = (Vec::new(), Vec::new(), 0);
     for call in calls {
         let answer = match *call {
             Call::Jump(rate) => voice.jump(rate),
@@ -44,12 +56,17 @@ fn archive_list(setting: &Setting, rate: f32, calls: &[Call]) -> (Vec<u32>, Vec<
                 let mut out = vec![0; count];
                 let answer = voice.play(book, &store, &mut out);
                 played.extend(out);
-                answer
+                answer.map(|count| multiplies += count)
             }
         };
         numbers.push(answer.map_or_else(|refusal| refusal.number(), |()| 0));
     }
-    (numbers, played, *voice.words())
+    Heard {
+        numbers,
+        samples: played,
+        multiplies,
+        voice: *voice.words(),
+    }
 }
 
 /// The same accepted calls at the same samples: plays are cut otherwise, refused
@@ -79,7 +96,7 @@ fn other_cut(rng: &mut Rng, calls: &[Call], numbers: &[u32]) -> Vec<Call> {
     list
 }
 
-/// Demand 3's last sentence.
+/// Demand 3's last sentence, and that multiply counts add up.
 #[test]
 fn cuts_make_no_difference() {
     let seed = Plan::from_env().seed;
@@ -89,12 +106,13 @@ fn cuts_make_no_difference() {
         let setting = random_setting(&mut rng, top, 400);
         let rate = accepted_rate(&mut rng, top);
         let calls = list_of_calls(&mut rng, &setting, rate, 20, 300);
-        let (numbers, samples, voice) = archive_list(&setting, rate, &calls);
-        let cut = other_cut(&mut rng, &calls, &numbers);
-        let (_, other_samples, other_voice) = archive_list(&setting, rate, &cut);
+        let heard = archive_list(&setting, rate, &calls);
+        let cut = other_cut(&mut rng, &calls, &heard.numbers);
+        let other = archive_list(&setting, rate, &cut);
         let repeat = format!("round {round}, DRIVE_SEED={seed}: {calls:?} and {cut:?}");
-        assert!(samples == other_samples, "samples differ: {repeat}");
-        assert!(voice == other_voice, "voices differ: {repeat}");
+        assert!(heard.samples == other.samples, "samples differ: {repeat}");
+        assert!(heard.voice == other.voice, "voices differ: {repeat}");
+        assert_eq!(heard.multiplies, other.multiplies, "multiplies: {repeat}");
     }
 }
 
@@ -120,7 +138,9 @@ fn samples_lie_within_the_bound() {
         let setting = random_setting(&mut rng, top, 150);
         let rate = accepted_rate(&mut rng, top);
         let calls = list_of_calls(&mut rng, &setting, rate, 16, 40);
-        let (numbers, samples, _) = archive_list(&setting, rate, &calls);
+        let Heard {
+            numbers, samples, ..
+        } = archive_list(&setting, rate, &calls);
         let list: Vec<exact::Call> = calls.iter().map(|call| (*call).into()).collect();
         let report = run_list(EDITION, &setting, rate, &list).unwrap();
         let repeat = format!("round {round}, DRIVE_SEED={seed}: {calls:?}");

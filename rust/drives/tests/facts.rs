@@ -36,24 +36,47 @@ fn refused_buildings_write_nothing() {
     assert_eq!(refused, expected);
 }
 
-/// An order, a seek or a play of `player_facts`: its label and number, and whether
-/// the voice was kept.
-fn answer(line: &str) -> Option<(&str, u32, bool)> {
+/// An order, a seek or a play of `player_facts`.
+struct Answer<'a> {
+    label: &'a str,
+    number: u32,
+    /// Whether the voice came back as it was.
+    kept: bool,
+    /// The multiply count of a play.
+    multiplies: Option<u64>,
+}
+
+fn answer(line: &str) -> Option<Answer<'_>> {
+    let (before, last) = line.rsplit_once(' ')?;
+    let (line, multiplies) = match last.parse() {
+        Ok(count) => (before, Some(count)),
+        Err(_) => (line, None),
+    };
     let kept = line.ends_with(" kept");
     let line = line.strip_suffix(" kept").or(line.strip_suffix(" moved"))?;
     let (label, number) = line.rsplit_once(' ')?;
-    Some((label, number.parse().ok()?, kept))
+    Some(Answer {
+        label,
+        number: number.parse().ok()?,
+        kept,
+        multiplies,
+    })
 }
 
+/// And they have no multiplies, where a play of some outputs has.
 #[test]
 fn refusals_keep_the_voice() {
     let text = player::text();
     let answers: Vec<_> = text.lines().filter_map(answer).collect();
-    for (label, number, kept) in &answers {
-        let no_outputs = *label == "play 0";
-        assert_eq!(*kept, *number != 0 || no_outputs, "{label} {number}");
+    for answer in &answers {
+        let (label, number) = (answer.label, answer.number);
+        let nothing_done = number != 0 || label == "play 0";
+        assert_eq!(answer.kept, nothing_done, "{label} {number}");
+        if let Some(multiplies) = answer.multiplies {
+            assert_eq!(multiplies == 0, nothing_done, "{label} {number}");
+        }
     }
-    let seen: BTreeSet<u32> = answers.iter().map(|(_, number, _)| *number).collect();
+    let seen: BTreeSet<u32> = answers.iter().map(|answer| answer.number).collect();
     assert_eq!(seen, (0..=19).collect());
 }
 
@@ -62,10 +85,10 @@ fn refusals_keep_the_voice() {
 fn numbers_with_outputs(lines: &[&str]) -> Vec<u32> {
     let pairs = lines.windows(2).filter(|pair| pair[1].starts_with(' '));
     let numbers = pairs.map(|pair| {
-        let (label, number, _) = answer(pair[0]).unwrap();
-        let outputs = if number == 0 { " 0 0" } else { " 7 7" };
-        assert_eq!(pair[1], outputs, "{label}");
-        number
+        let answer = answer(pair[0]).unwrap();
+        let outputs = if answer.number == 0 { " 0 0" } else { " 7 7" };
+        assert_eq!(pair[1], outputs, "{}", answer.label);
+        answer.number
     });
     numbers.collect()
 }
@@ -74,8 +97,9 @@ fn numbers_with_outputs(lines: &[&str]) -> Vec<u32> {
 fn numbers_of_states(lines: &[&str]) -> Vec<u32> {
     let threes = lines.windows(3).filter_map(|three| {
         let [first, second, third] = [0, 1, 2].map(|at| answer(three[at]));
-        let (label, number, _) = third?;
-        (first?.0 == label && second?.0 == label).then_some(number)
+        let third = third?;
+        let labels = [first?.label, second?.label];
+        (labels == [third.label; 2]).then_some(third.number)
     });
     threes.collect()
 }
@@ -90,12 +114,16 @@ fn every_number_of_play() {
     assert_eq!(seen, (0..=9).chain(13..=19).collect());
 }
 
-/// The rates and levels of a line.
-fn rates_and_levels<'a>(text: &'a str, label: &str) -> impl Iterator<Item = (u64, u64)> + 'a {
-    let named = |line: &'a str| line.strip_prefix(label)?.strip_prefix(' ');
+/// The numbers after a label.
+fn numbers_of(text: &str, label: &str) -> Vec<u64> {
+    let named = |line: &str| Some(line.strip_prefix(label)?.strip_prefix(' ')?.to_owned());
     let words = text.lines().find_map(named).unwrap();
-    let numbers: Vec<u64> = words.split(' ').map(|word| word.parse().unwrap()).collect();
-    let pairs = numbers.as_chunks().0.to_vec();
+    words.split(' ').map(|word| word.parse().unwrap()).collect()
+}
+
+/// The rates and levels of a line.
+fn rates_and_levels(text: &str, label: &str) -> impl Iterator<Item = (u64, u64)> {
+    let pairs = numbers_of(text, label).as_chunks().0.to_vec();
     pairs.into_iter().map(|[rate, level]| (rate, level))
 }
 
@@ -127,5 +155,27 @@ fn levels_at_the_ends_of_the_bands() {
         let levels: Vec<u64> = rates_and_levels(&text, &label).map(|(_, l)| l).collect();
         let below = level - 1;
         assert_eq!(levels, [below, level, level, below, below, 0], "{label}");
+    }
+}
+
+/// 4N + 2B + 1 for an output, and 2N more for each of a fade's F points, which come two
+/// to an output; the counts of four plays are that of one.
+#[test]
+fn multiplies_along_a_fade() {
+    let text = player::text();
+    let books = [
+        ("F 1", 2, 0, 1u64),
+        ("F 3", 2, 0, 3),
+        ("F 4", 2, 0, 4),
+        ("N 12, B 3", 12, 3, 4),
+    ];
+    for (name, taps, decimation, fade) in books {
+        let rest: u64 = 4 * taps + 2 * decimation + 1;
+        let in_fade = [0, 2, 4, 6].map(|made: u64| fade.saturating_sub(made).min(2));
+        let after = in_fade.map(|points| rest + points * 2 * taps);
+        let whole = 4 * rest + fade * 2 * taps;
+        let expected = [&[rest; 2][..], &after, &[whole]].concat();
+        let label = format!("multiplies, {name}");
+        assert_eq!(numbers_of(&text, &label), expected, "{label}");
     }
 }

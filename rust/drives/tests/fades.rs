@@ -1,9 +1,10 @@
 //! The fades that a drive takes under document 01's rule, which is edition C's, and
 //! under request (d)'s: of a rate that trembles across an octave, and of the test
-//! drive.
+//! drive. And the multiplies of the same.
 
 use drives::call::{lent, Call};
 use drives::record::LEVEL;
+use drives::EDITION;
 use renderer::voice::{open, Card, Lent};
 use renderer::Edition;
 use std::iter::successors;
@@ -23,33 +24,39 @@ struct Drive {
     orders: Vec<(Call, usize)>,
 }
 
+/// What a drive takes.
+#[derive(Default, PartialEq, Eq, Debug)]
+struct Taken {
+    fades: usize,
+    multiplies: u64,
+}
+
 impl Drive {
-    /// The fades by the renderer: each ends, with another level, before the next
-    /// begins.
-    fn rendered(&self, edition: Edition) -> usize {
+    /// By the renderer: each fade ends, with another level, before the next begins.
+    fn rendered(&self, edition: Edition) -> Taken {
         let card = Card {
             rate: self.rate,
             top: 4,
         };
         let mut voice = open(edition, card).1;
-        let mut fades = 0;
+        let mut taken = Taken::default();
         for (order, outputs) in &self.orders {
-            voice = order.rendered_at(edition, &voice, &LENT, &mut []).1;
+            voice = order.rendered_at(edition, &voice, &LENT, &mut []).voice;
             for _ in 0..*outputs {
                 let level = voice.level;
-                voice = Call::Play(1)
-                    .rendered_at(edition, &voice, &LENT, &mut [0])
-                    .1;
-                fades += usize::from(voice.level != level);
+                let played = Call::Play(1).rendered_at(edition, &voice, &LENT, &mut [0]);
+                voice = played.voice;
+                taken.fades += usize::from(voice.level != level);
+                taken.multiplies += played.multiplies;
             }
         }
-        fades
+        taken
     }
 
     /// The same by the archive.
-    fn played(&self) -> usize {
+    fn played(&self) -> Taken {
         let mut voice = Voice::open(self.rate, 4).unwrap();
-        let mut fades = 0;
+        let mut taken = Taken::default();
         for (order, outputs) in &self.orders {
             match *order {
                 Call::Jump(rate) => voice.jump(rate).unwrap(),
@@ -58,18 +65,22 @@ impl Drive {
             }
             for _ in 0..*outputs {
                 let level = voice.words()[LEVEL];
-                voice.play(&BOOK, &STORE, &mut [0]).unwrap();
-                fades += usize::from(voice.words()[LEVEL] != level);
+                taken.multiplies += voice.play(&BOOK, &STORE, &mut [0]).unwrap();
+                taken.fades += usize::from(voice.words()[LEVEL] != level);
             }
         }
-        fades
+        taken
     }
 
-    /// Both, under the old rule and the new.
-    fn fades(&self) -> [usize; 2] {
-        let [old, new] = [Edition::C, Edition::D].map(|edition| self.rendered(edition));
+    /// The renderer's under the old rule and under the one that the archive has.
+    fn taken(&self) -> [Taken; 2] {
+        let [old, new] = [Edition::C, EDITION].map(|edition| self.rendered(edition));
         assert_eq!(self.played(), new);
         [old, new]
+    }
+
+    fn fades(&self) -> [usize; 2] {
+        self.taken().map(|taken| taken.fades)
     }
 }
 
@@ -121,5 +132,7 @@ fn test_drive() -> Drive {
 /// A test of the command `tone` counts them too.
 #[test]
 fn the_test_drive() {
-    assert_eq!(test_drive().fades(), [47, 45]);
+    let [old, new] = test_drive().taken();
+    assert_eq!((old.fades, new.fades), (47, 45));
+    assert_eq!(new.multiplies, 14_400);
 }

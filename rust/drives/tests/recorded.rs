@@ -91,7 +91,7 @@ fn see_voice(seen: &mut Seen, voice: &Voice) {
 fn see_play(seen: &mut Seen, voice: &mut Voice, lent: &Lent, count: usize) {
     for _ in 0..count {
         let gliding = voice.glide_count > 0;
-        *voice = Call::Play(1).rendered(voice, lent, &mut [0]).1;
+        *voice = Call::Play(1).rendered(voice, lent, &mut [0]).voice;
         if gliding && voice.glide_count == 0 {
             seen.insert("glide that ends".to_string());
         }
@@ -129,7 +129,7 @@ fn see_drive(seen: &mut Seen, drive: &SmallDrive) {
         see_answer(seen, answered);
         match answered.call {
             Call::Play(count) => see_play(seen, &mut voice, &lent, count),
-            other => voice = other.rendered(&voice, &lent, &mut []).1,
+            other => voice = other.rendered(&voice, &lent, &mut []).voice,
         }
     }
     if voice.fade > 0 {

@@ -149,10 +149,11 @@ impl Voice {
         Refusal::answer(archive::seek(&mut self.words, position))
     }
 
-    /// Fills `out` with the next samples. Refused 1 to 7 for the book, 9, 8, 9
-    /// or 18 for the store (see [`check_store`]), 13 for the voice, 19 where its
-    /// T is not the store's, 14 to 17 for the voice, 11 for more than 1048576
-    /// outputs; then neither `out` nor the voice is changed.
+    /// Fills `out` with the next samples, and hands back how many multiplies that
+    /// took. Refused 1 to 7 for the book, 9, 8, 9 or 18 for the store (see
+    /// [`check_store`]), 13 for the voice, 19 where its T is not the store's, 14 to
+    /// 17 for the voice, 11 for more than 1048576 outputs; then neither `out` nor
+    /// the voice is changed.
     ///
     /// Upwards a fade leads to the level of the rate's octave as soon as it is
     /// reached. Downwards a level stays to 15/16 of where its own octave begins, so
@@ -170,8 +171,25 @@ impl Voice {
     /// # Ok::<(), tone::Refusal>(())
     /// ```
     ///
-    /// However a stretch of outputs is cut into plays, the samples and the
-    /// voice at its end are the same.
+    /// The multiply count is 2N for each level value made, which are two at a point
+    /// in a fade and one at any other, and 2B + 1 for each output: 4N + 2B + 1 for
+    /// an output without a fade, and never more than 8N + 2B + 1.
+    ///
+    /// ```
+    /// # let store = [3, 1, 3, 2, 0, 256_000, 512_000, 0, 512_000];
+    /// // N 2 and B 0; a fade takes F = 3 points, and an output makes two.
+    /// let book = [2, 1, 0, 0, 3, 0, 16384, 16384, -16384, 16384, 16384];
+    /// let mut voice = tone::Voice::open(1.0, 1)?;
+    /// assert_eq!(voice.play(&book, &store, &mut [0; 10])?, 10 * 9);
+    /// voice.jump(2.0)?; // to level 1
+    /// assert_eq!(voice.play(&book, &store, &mut [0])?, 17);
+    /// assert_eq!(voice.play(&book, &store, &mut [0])?, 13);
+    /// assert_eq!(voice.play(&book, &store, &mut [0; 8])?, 8 * 9);
+    /// # Ok::<(), tone::Refusal>(())
+    /// ```
+    ///
+    /// However a stretch of outputs is cut into plays, the samples, the sum of the
+    /// multiply counts and the voice at its end are the same.
     ///
     /// ```
     /// # let book = [2, 1, 0, 0, 1, 0, 16384, 16384, -16384, 16384, 16384];
@@ -179,15 +197,17 @@ impl Voice {
     /// let mut whole = tone::Voice::open(1.0, 0)?;
     /// let mut cut = whole.clone();
     /// let mut out = [0; 4];
-    /// whole.play(&book, &store, &mut out)?;
-    /// let mut parts = [0; 4];
+    /// let multiplies = whole.play(&book, &store, &mut out)?;
+    /// let (mut parts, mut sum) = ([0; 4], 0);
     /// for part in parts.chunks_mut(3) {
-    ///     cut.play(&book, &store, part)?;
+    ///     sum += cut.play(&book, &store, part)?;
     /// }
-    /// assert_eq!((parts, cut), (out, whole));
+    /// assert_eq!((parts, sum, cut), (out, multiplies, whole));
     /// # Ok::<(), tone::Refusal>(())
     /// ```
-    pub fn play(&mut self, book: &[i32], store: &[i32], out: &mut [i16]) -> Result<(), Refusal> {
-        Refusal::answer(archive::play(&mut self.words, book, store, out))
+    pub fn play(&mut self, book: &[i32], store: &[i32], out: &mut [i16]) -> Result<u64, Refusal> {
+        let mut multiplies = 0;
+        let number = archive::play(&mut self.words, book, store, out, &mut multiplies);
+        Refusal::answer(number).map(|()| multiplies)
     }
 }

@@ -235,6 +235,73 @@ fn voices_that_are_refused() {
     }
 }
 
+/// One output after another, with the multiply count of each.
+fn counts(book: &[i32], store: &[i32], voice: &mut Voice, outputs: usize) -> Vec<u64> {
+    let one = |_| voice.play(book, store, &mut [0]).unwrap();
+    (0..outputs).map(one).collect()
+}
+
+/// N 2 and B 0: 9 for an output, and 4 more for each of its points in a fade, to the
+/// last one.
+#[test]
+fn multiplies_of_fades_that_end_at_either_point() {
+    let cases: [(i32, [u64; 4]); 5] = [
+        (1, [13, 9, 9, 9]),
+        (2, [17, 9, 9, 9]),
+        (3, [17, 13, 9, 9]),
+        (4, [17, 17, 9, 9]),
+        (256, [17; 4]),
+    ];
+    for (fade, expected) in cases {
+        let book = book_k(fade, 16384, 16384);
+        let store = store_of(&book, &[5; 30], 1);
+        let mut voice = Voice::open(1.0, 1).unwrap();
+        assert_eq!(counts(&book, &store, &mut voice, 3), [9; 3]);
+        voice.jump(2.0).unwrap();
+        let mut whole = voice.clone();
+        assert_eq!(counts(&book, &store, &mut voice, 4), expected, "F {fade}");
+        let count = whole.play(&book, &store, &mut [0; 4]).unwrap();
+        assert_eq!((count, whole), (expected.iter().sum(), voice));
+    }
+}
+
+/// 55 an output for N 12 and B 3, in the longest play too.
+#[test]
+fn multiplies_of_long_plays() {
+    let impulses = [0, 0, 0, 0, 0, 0, 16384, 0, 0, 0, 0, 0];
+    let differences = [0, 0, 0, 0, 0, 16384, -16384, 0, 0, 0, 0, 0];
+    let taps = [16384, 16384, 0, 0, 0];
+    let book = [&[12, 1, 0, 3, 1][..], &impulses, &differences, &taps].concat();
+    let store = store_of(&book, &[5; 30], 0);
+    let mut voice = Voice::open(1.0, 0).unwrap();
+    let mut out = vec![0; 1_048_576];
+    for outputs in [0, 1, 63, 64, 65, 255, 256, 4096, 1_048_576] {
+        let count = voice.play(&book, &store, &mut out[..outputs]).unwrap();
+        assert_eq!(count, 55 * outputs as u64);
+    }
+}
+
+/// A refused call has none, whatever stood there.
+#[test]
+fn multiplies_of_refused_plays() {
+    let book = plain_k();
+    let store = store_of(&book, &[5; 3], 1);
+    let fresh = *Voice::open(1.0, 1).unwrap().words();
+    let damaged = *with(&Voice::from_words(fresh), &[(3, 1)]).words();
+    let cases: [(&[i32], &[i32], [i32; VOICE_WORDS], u32); 4] = [
+        (&book[..4], &store, fresh, 1),
+        (&book, &store[..8], fresh, 9),
+        (&book, &store, damaged, 14),
+        (&book, &store, fresh, 0),
+    ];
+    for (book, store, mut words, expected) in cases {
+        let mut multiplies = 77;
+        let number = archive::play(&mut words, book, store, &mut [7; 3], &mut multiplies);
+        let count = if expected == 0 { 27 } else { 0 };
+        assert_eq!((number, multiplies), (expected, count));
+    }
+}
+
 #[test]
 fn a_slice_of_too_many_outputs() {
     let book = plain_k();
@@ -261,9 +328,11 @@ fn voice_slices_of_another_length() {
         assert_eq!(archive::jump(&mut voice, 1.0), VOICE_LENGTH);
         assert_eq!(archive::glide(&mut voice, 1.0, 1), VOICE_LENGTH);
         assert_eq!(archive::seek(&mut voice, 0), VOICE_LENGTH);
-        let played = archive::play(&mut voice, &book, &store, &mut out);
-        assert_eq!(played, VOICE_LENGTH);
-        assert_eq!(archive::play(&mut voice, &[], &[], &mut out), VOICE_LENGTH);
+        for lent in [(&book[..], &store[..]), (&[], &[])] {
+            let mut multiplies = 77;
+            let played = archive::play(&mut voice, lent.0, lent.1, &mut out, &mut multiplies);
+            assert_eq!((played, multiplies), (VOICE_LENGTH, 0));
+        }
         assert_eq!((voice, out), (vec![77; length], [77; 2]));
     }
 }

@@ -27,7 +27,7 @@ fn accepts(store: &[i32], top: u32) {
     assert_eq!(check_store(store), Ok(()));
     assert_eq!(top_level(store), Ok(top));
     let mut voice = Voice::open(1.0, top).unwrap();
-    assert_eq!(voice.play(&K, store, &mut [0; 3]), Ok(()));
+    assert_eq!(voice.play(&K, store, &mut [0; 3]), Ok(27));
 }
 
 /// The check and play give a store's number, and play writes nothing. A voice of

@@ -8,8 +8,8 @@ use Prim.Native.Nat.{ℕ}
 use lib.Dec.{eqb}
 use lib.IntN.{ℤ}
 use Rattle.player.specs.declared.Voice.{Voice}
-use Rattle.player.specs.declared.Answer.{Answer}
-use Rattle.player.specs.Calls.{Played, played, playAnswer}
+use Rattle.player.specs.declared.PlayAnswer.{PlayAnswer}
+use Rattle.player.specs.Calls.{answer, Played, played, playAnswer}
 use Rattle.marshal.specs.Words.{voiceOf, wordsOf}
 use Rattle.marshal.specs.Calls.{crossed, returned, PlayCrossed, playCrossed, playCrossing}
 use Rattle.marshal.proofs.play.Statement.{statement}
@@ -17,18 +17,18 @@ use Rattle.marshal.proofs.play.Tie as tie
 
 -- a play's answer, its voice written back over the words that were lent
 writtenBack : List ℤ → Played → PlayCrossed
-writtenBack voice p = playCrossed (p .number) (cond (eqb (p .number) 0) (wordsOf (p .voice)) voice) (p .words)
+writtenBack voice p = playCrossed (p .number) (cond (eqb (p .number) 0) (wordsOf (p .voice)) voice) (p .multiplies) (p .words)
 
 -- that is what the three calls leave: the voice read from its words, the play, and `returned`
 three-calls :
-    (voice b store : List ℤ) (out : List ℤ) (v : Voice) (a : Answer) (words : List ℤ) (n : ℕ) (left : List ℤ) →
+    (voice b store : List ℤ) (out : List ℤ) (v : Voice) (a : PlayAnswer) (words : List ℤ) (n : ℕ) (left : List ℤ) →
     v ≡ voiceOf voice →
-    played (a .number) (a .voice) words ≡ playAnswer b store v out →
-    crossed n left ≡ returned voice a →
-    playCrossed n left words ≡ writtenBack voice (playAnswer b store (voiceOf voice) out)
+    played (a .number) (a .voice) (a .multiplies) words ≡ playAnswer b store v out →
+    crossed n left ≡ returned voice (answer (a .number) (a .voice)) →
+    playCrossed n left (a .multiplies) words ≡ writtenBack voice (playAnswer b store (voiceOf voice) out)
 unfolding returned writtenBack
 three-calls voice b store out v a words n left read play back =
-    ap (λ x. playCrossed (x .number) (x .voice) words) back
+    ap (λ x. playCrossed (x .number) (x .voice) (a .multiplies) words) back
     ∙ ap (writtenBack voice) play
     ∙ ap (λ u. writtenBack voice (playAnswer b store u out)) read
 
@@ -55,7 +55,7 @@ returns-2 : tie.Need-returns-2
 unfolding playCrossing writtenBack
 returns-2 c =
     let r = c .before in
-    let p = r .before .before .before in
+    let p = r .before .before .before .before in
     let v = p .before .before in
     let e = v .before .before in
     let s = e .before in

@@ -13,15 +13,18 @@ use Rattle.control.specs.declared.Plan.{Plan}
 use Rattle.points.specs.Points.{point}
 use Rattle.positions.specs.Runs.{controlAfter}
 use Rattle.points.specs.Runs.{runPoints}
+use Rattle.multiplies.specs.Inner.{runValues}
 use Rattle.points.proofs.next_points.Statement.{statement}
 use Rattle.points.proofs.next_points.Tie as tie
 
 -- one output is a run of one
-one-made : (line : List ℤ) (make : Plan → ℤ) (F : ℕ) (c : Control) {m n : ℕ} {d : Control} {l : List ℤ} → 1 ≤ n → m ≡ 1 → d ≡ controlAfter F c 1
+one-made : (line : List ℤ) (make : Plan → ℤ) (F : ℕ) (c : Control) {m n v : ℕ} {d : Control} {l : List ℤ} → 1 ≤ n → m ≡ 1 → d ≡ controlAfter F c 1 → v ≡ runValues F c 1
     → l ≡ overwrite line 126 (runPoints make F c 1)
-    → ((1 ≤ m) × (m ≤ n) × (d ≡ controlAfter F c m)) × (l ≡ overwrite line (128 - 2 * m) (runPoints make F c m))
-one-made line make F c h e control points =
-    ((omega arith, omega arith, control ∙ ap (controlAfter F c) (sym e)), points ∙ ap (λ n. overwrite line (128 - 2 * n) (runPoints make F c n)) (sym e))
+    → ((1 ≤ m) × (m ≤ n) × (d ≡ controlAfter F c m) × (v ≡ runValues F c m)) × (l ≡ overwrite line (128 - 2 * m) (runPoints make F c m))
+one-made line make F c h e control values points = (
+  (omega arith, omega arith, control ∙ ap (controlAfter F c) (sym e), values ∙ ap (runValues F c) (sym e)),
+  points ∙ ap (λ n. overwrite line (128 - 2 * n) (runPoints make F c n)) (sym e),
+)
 
 module _ (s : tie.Start) where
   abbrev line : List ℤ
@@ -56,7 +59,7 @@ returns c =
     let o = c .before .one-output in
     let s = c .before .before .before .before .before in
     let e = o .ensures in
-    one-made (line s) (make s) (s .args .layout .fade) (s .args .c) (s .pre .0 .3) (e .0) (e .1) (e .2)
+    one-made (line s) (make s) (s .args .layout .fade) (s .args .c) (s .pre .0 .3) (e .0) (e .1) (e .2) (e .3)
 
 steady-run-requires : tie.Need-steady-run-requires
 steady-run-requires c κs =
@@ -70,7 +73,7 @@ same-length-2 c = search needs
 returns-2 : tie.Need-returns-2
 returns-2 c =
     let e = c .before .before .before .steady-run .ensures in
-    ((omega (arith, c .if2 .taken), e .0 .0, e .0 .1), e .1)
+    ((omega (arith, c .if2 .taken), e .0 .0, e .0 .1, e .0 .2), e .1)
 
 one-output-requires-2 : tie.Need-one-output-requires-2
 one-output-requires-2 c κs =
@@ -88,8 +91,8 @@ returns-3 c =
     let n = c .before .before .before in
     let s = start n in
     let e = o .ensures in
-    one-made (line s) (make s) (s .args .layout .fade) (s .args .c) (s .pre .0 .3) (e .0) (e .1)
-    (e .2 ∙ ap (λ l. overwrite l 126 (runPoints (make s) (s .args .layout .fade) (s .args .c) 1)) (line-same n))
+    one-made (line s) (make s) (s .args .layout .fade) (s .args .c) (s .pre .0 .3) (e .0) (e .1) (e .2)
+    (e .3 ∙ ap (λ l. overwrite l 126 (runPoints (make s) (s .args .layout .fade) (s .args .c) 1)) (line-same n))
 
 pub next-points-spec : {M : Type 1} → statement M
 next-points-spec =

@@ -2,7 +2,7 @@
 use borrow.Author.Needs.{needs}
 use mathlib.Core.Path.{_≡_, refl, ap, ap₂, _∙_}
 use mathlib.Core.List.{List, [], _∷_}
-use Prim.Native.Nat.{ℕ, _^_, _≤_, _<_}
+use Prim.Native.Nat.{ℕ, _+_, _^_, _≤_, _<_}
 use native.Mathlib.Omega.{arith}
 use lib.IntN.{ℤ, pos}
 use lib.ListN.{length, set}
@@ -22,8 +22,11 @@ use Rattle.points.specs.Inner.{levelsPoint}
 use Rattle.store.specs.Store.{storeLevel}
 use Rattle.values.specs.Values.{value}
 use Rattle.control.specs.Valid.{Valid}
-use Rattle.positions.specs.Runs.{controlAfter}
+use Rattle.positions.specs.Runs.{controlAfter, firstPlan, secondPlan}
 use Rattle.points.specs.Runs.{runPoints}
+use Rattle.multiplies.specs.Multiplies.{valuesMade}
+use Rattle.multiplies.specs.Inner.{runValues}
+use Rattle.multiplies.proofs.Multiplies.{made-high}
 use Rattle.control.proofs.Kept.{moveGlide-valid, moveGlide-top, movePoint-valid, movePoint-top}
 use Rattle.points.proofs.Points.{plan-read}
 use Rattle.points.proofs.one_output.Statement.{statement}
@@ -38,6 +41,14 @@ points-are : (make : Plan → ℤ) (F : ℕ) (c : Control) {one two : Control} {
     → two ≡ movePoint F one → plan₂ ≡ pointPlan two → y ≡ make plan₂ → y ∷ x ∷ [] ≡ runPoints make F c 1
 unfolding runPoints controlAfter
 points-are make F c one plan₁ x two plan₂ y = cc
+
+values-are : (F : ℕ) (c : Control) {one two : Control} {plan₁ plan₂ : Plan} {x y : ℕ} → one ≡ moveGlide c → plan₁ ≡ pointPlan one → x ≡ valuesMade (plan₁ .step)
+    → two ≡ movePoint F one → plan₂ ≡ pointPlan two → y ≡ valuesMade (plan₂ .step) → x + y ≡ runValues F c 1
+unfolding runValues controlAfter
+values-are F c {x = v} {y = w} one plan₁ x two plan₂ y =
+    let first : v ≡ valuesMade (firstPlan F c 0 .step) = cc in
+    let second : w ≡ valuesMade (secondPlan F c 0 .step) = cc in
+    omega (arith, first, second)
 
 -- two words, written one after the other
 two-written : (line : List ℤ) (x y : ℤ) → 128 ≤ length line → set (set line 126 y) 127 x ≡ overwrite line 126 (y ∷ x ∷ [])
@@ -176,12 +187,25 @@ slice-set-from-line-2 c = let line = start (one (c .before .before .before .befo
 point-moved-requires-2 : tie.Need-point-moved-requires-2
 point-moved-requires-2 c κs = let t = c .before .before .before .before in plan-small (start (one t)) (two-ready t)
 
+values-made-requires : tie.Need-values-made-requires
+values-made-requires c κs = search needs
+
+values-made-requires-2 : tie.Need-values-made-requires-2
+values-made-requires-2 c κs = search needs
+
+add-values : tie.Need-add-values
+add-values c =
+    let first : c .before .values-made .result ≤ 2 = rw (c .before .values-made .ensures) (made-high _) in
+    let second : c .values-made2 .result ≤ 2 = rw (c .values-made2 .ensures) (made-high _) in
+    omega (arith, first, second)
+
 same-length : tie.Need-same-length
 same-length c = search needs
 
 returns : tie.Need-returns
 returns c =
-    let p₂ = c .before in
+    let m = c .before .before in
+    let p₂ = m .before in
     let q₂ = p₂ .before .before .before in
     let t = q₂ .before in
     let p₁ = t .before in
@@ -196,7 +220,8 @@ returns c =
     let written = two-written line (p₁ .point-of .result) (p₂ .point-of2 .result) (omega arith) in
     let points = points-are make (F s) (s .args .c) (one-is o) (q₁ .point-plan .ensures) first (two-is t) (q₂ .point-plan2 .ensures) second in (
       refl,
-      control-is (F s) (s .args .c) (one-is o) (two-is t) (c .point-moved2 .ensures),
+      control-is (F s) (s .args .c) (one-is o) (two-is t) (m .point-moved2 .ensures),
+      values-are (F s) (s .args .c) (one-is o) (q₁ .point-plan .ensures) (c .before .values-made .ensures) (two-is t) (q₂ .point-plan2 .ensures) (c .values-made2 .ensures),
       simp (reads, first-fits p₁, second-fits p₂) (written ∙ ap (overwrite line 126) points),
     )
 
@@ -219,5 +244,8 @@ one-output-spec =
     cast-line-2
     slice-set-from-line-2
     point-moved-requires-2
+    values-made-requires
+    values-made-requires-2
+    add-values
     same-length
     returns)

@@ -16,6 +16,8 @@ use Rattle.values.proofs.Layouts.{fewer-levels}
 use Rattle.points.specs.Points.{point}
 use Rattle.positions.specs.Runs.{firstPlan, secondPlan, steadyPlan}
 use Rattle.points.specs.Runs.{runPoints}
+use Rattle.multiplies.specs.Inner.{runValues}
+use Rattle.multiplies.proofs.Multiplies.{values-steady}
 use Rattle.points.proofs.Points.{steady-point}
 use Rattle.points.proofs.RunPoints.{run-tabulate}
 use Rattle.points.proofs.steady_run.Statement.{statement}
@@ -57,6 +59,12 @@ module _ (p : tie.After-steady-positions) where
   room : 2 * made ≤ length ps
   room = omega (arith, p .steady-positions .ensures .0 .0, p .steady-positions .ensures .0 .2, first .pre .0 .4)
 
+  -- two level values an output, since no point is in a fade
+  values-are : 2 * made ≡ runValues (first .args .layout .fade) (first .args .c) made
+  values-are =
+      sym (values-steady (first .args .layout .fade) (first .args .c) made
+      (λ k h. let x = p .steady-positions .ensures .1 .0 k h in (ap (λ q. q .step) (x .0), ap (λ q. q .step) (x .1))))
+
   -- the first of them is the control's
   first-is : 1 ≤ made → getD ps 0 0 ≡ first .args .c .position
   first-is h = let b = p .steady-positions .ensures .1 .1 0 (omega arith) in omega (arith, b .0, b .1)
@@ -71,19 +79,19 @@ steady-positions-requires c κs =
     let f = sizes-bounded (s .args .book .now) (accepted _ (o .book-accepted)) in
     (s .pre .0 .1, s .pre .0 .2, s .pre .0 .4, omega (arith, o .fade, f .fade-low), omega (arith, o .fade, f .fade-high), refl)
 
+mul-values : tie.Need-mul-values
+mul-values c = search needs
+
 returns : tie.Need-returns
 unfolding runPoints
 returns c =
-    let p = c .before .before in
+    let p = c .before .before .before in
     let s = first p in
     let e = p .steady-positions .ensures .0 in
     let line = s .args .line .now in
     let make = point (s .args .book .now) (s .args .store .now) in
     let none = overwrite-none line 128 ∙ ap (λ n. overwrite line (128 - 2 * n) (runPoints make (s .args .layout .fade) (s .args .c) n)) (sym (c .if1 .taken)) in
-    ((e .0, e .1), none)
-
-mul-end : tie.Need-mul-end
-mul-end c = search needs
+    ((e .0, e .1, values-are p), none)
 
 sub-steady-points : tie.Need-sub-steady-points
 sub-steady-points c = search needs
@@ -97,7 +105,7 @@ part-steady-points-end c = search needs
 steady-points-requires : tie.Need-steady-points-requires
 unfolding unit
 steady-points-requires c κs =
-    let p = c .before .before .before .before .before in
+    let p = c .before .before .before .before .before .before in
     let s = first p in
     let v = s .pre .0 .1 in
     let some : 1 ≤ made p = omega (arith, c .before .before .before .if1 .left) in
@@ -126,7 +134,7 @@ same-length c = search needs
 
 returns-2 : tie.Need-returns-2
 returns-2 c =
-    let p = c .before .before .before .before .before .before .before in
+    let p = c .before .before .before .before .before .before .before .before in
     let s = first p in
     let e = p .steady-positions .ensures in
     let n : ℕ = 2 * made p in
@@ -140,7 +148,7 @@ returns-2 c =
     let x = e .1 .0 k h in
     (x .0 ∙ ap (steadyPlan l) (sym (at (2 * k) (omega arith))), x .1 ∙ ap (steadyPlan l) (sym (at (2 * k + 1) (omega arith)))) in
     let points = points-are b store (s .args .layout .fade) (s .args .c) l q (made p) plans in (
-      (e .0 .0, e .0 .1),
+      (e .0 .0, e .0 .1, values-are p),
       c .before .steady-points .ensures
           ∙ ap (λ n. overwrite line (128 - n) (tabulate n (λ j. value b store l (getD q (n - suc j) 0)))) (lent-length (ps p) n (room p))
           ∙ ap (overwrite line (128 - n)) points,
@@ -152,8 +160,8 @@ steady-run-spec =
     (tie.spec
     slice-aggregate-steady-positions
     steady-positions-requires
+    mul-values
     returns
-    mul-end
     sub-steady-points
     part-steady-points-start
     part-steady-points-end

@@ -29,13 +29,13 @@ impl Hum {
         Voice::open(rate, top_level(self.store)?)
     }
 
-    fn play(&self, voice: &mut Voice, out: &mut [i16]) -> Result<(), Refusal> {
+    fn play(&self, voice: &mut Voice, out: &mut [i16]) -> Result<u64, Refusal> {
         voice.play(&self.book, self.store, out)
     }
 }
 
 /// Plays `count` outputs, `step` or fewer at a time, and prints them after the
-/// case's letter.
+/// case's letter, and the sum of their multiplies.
 fn print_played(
     letter: char,
     voice: &mut Voice,
@@ -43,22 +43,25 @@ fn print_played(
     count: usize,
     step: usize,
 ) -> Result<(), Refusal> {
-    let mut out = vec![0; count];
+    let (mut out, mut sum) = (vec![0; count], 0);
     for part in out.chunks_mut(step) {
-        hum.play(voice, part)?;
+        sum += hum.play(voice, part)?;
     }
     let samples: Vec<String> = out.iter().map(i16::to_string).collect();
     println!("{letter} {}", samples.join(" "));
+    println!("{sum} multiplies");
     Ok(())
 }
 
-/// However a drive is cut into plays, its samples are the same.
+/// However a drive is cut into plays, its samples and the sum of its multiplies are
+/// the same.
 fn case_b() -> Result<(), Refusal> {
     print_played('B', &mut B.open(2.0)?, &B, 3, 3)?;
     print_played('B', &mut B.open(2.0)?, &B, 3, 1)
 }
 
-/// The jump crosses an octave: a fade of 4 points leads to level 1.
+/// The jump crosses an octave: a fade of 4 points leads to level 1, and makes two
+/// level values at each.
 fn case_c() -> Result<(), Refusal> {
     let mut voice = C.open(1.0)?;
     voice.jump(2.0)?;
@@ -67,13 +70,17 @@ fn case_c() -> Result<(), Refusal> {
     Ok(())
 }
 
-/// A damaged voice is refused by its number, and nothing is written.
+/// A damaged voice is refused by its number, and nothing is written: a refused
+/// play has taken no multiplies.
 fn refusal() -> Result<(), Refusal> {
     let mut words = *B.open(1.0)?.words();
     words[13] = -1; // the high word of P
     let mut out = [77; 2];
     if let Err(refusal) = B.play(&mut Voice::from_words(words), &mut out) {
-        println!("a voice beyond 2^60: number {}", refusal.number());
+        println!(
+            "a voice beyond 2^60: number {}, 0 multiplies",
+            refusal.number()
+        );
     }
     let kept = if out == [77; 2] {
         "as it was"

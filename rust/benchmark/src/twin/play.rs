@@ -8,28 +8,22 @@ use super::values::Phases;
 use super::voice::{Voice, POINTS};
 
 impl Voice {
-    /// Fills `out`, or gives the first of the numbers 1 to 7, 9, 8, 9, 18, 13, 19,
-    /// 14 to 17 and 11.
-    pub fn play(&mut self, book: &[i32], store: &[i32], out: &mut [i16]) -> u32 {
-        let book = match Book::accepted(book) {
-            Ok(book) => book,
-            Err(number) => return number,
-        };
-        let levels = match Levels::accepted(store) {
-            Ok(levels) => levels,
-            Err(number) => return number,
-        };
+    /// Fills `out` and gives the multiply count, or the first of the numbers 1 to 7,
+    /// 9, 8, 9, 18, 13, 19, 14 to 17 and 11.
+    pub fn play(&mut self, book: &[i32], store: &[i32], out: &mut [i16]) -> Result<u64, u32> {
+        let book = Book::accepted(book)?;
+        let levels = Levels::accepted(store)?;
         let number = self.play_number(book.fade, levels.top);
         if number != 0 {
-            return number;
+            return Err(number);
         }
         if out.len() > 1_048_576 {
-            return 11;
+            return Err(11);
         }
         if out.is_empty() {
-            return 0;
+            return Ok(0);
         }
-        match book.taps {
+        let values = match book.taps {
             2 => self.fill::<2>(&book, &levels, out),
             4 => self.fill::<4>(&book, &levels, out),
             6 => self.fill::<6>(&book, &levels, out),
@@ -42,13 +36,16 @@ impl Voice {
             20 => self.fill::<20>(&book, &levels, out),
             22 => self.fill::<22>(&book, &levels, out),
             _ => self.fill::<24>(&book, &levels, out),
-        }
-        0
+        };
+        let for_values = values * 2 * book.taps;
+        let for_outputs = out.len() * (2 * book.decimation_taps.len() - 1);
+        Ok((for_values + for_outputs) as u64)
     }
 
     /// Blocks of outputs. Points go into a work array behind the history, in
-    /// the order of time, so that it is moved once per block.
-    fn fill<const N: usize>(&mut self, book: &Book, levels: &Levels, out: &mut [i16]) {
+    /// the order of time, so that it is moved once per block. Gives the count of
+    /// level values.
+    fn fill<const N: usize>(&mut self, book: &Book, levels: &Levels, out: &mut [i16]) -> usize {
         let phases = Phases::<N>::of(book);
         let taps = Taps::of(book.decimation_taps);
         let mut control = Control::of(self, book.fade);
@@ -56,9 +53,10 @@ impl Voice {
         for (point, word) in work[..POINTS].iter_mut().zip(self.history.iter().rev()) {
             *point = i64::from(*word);
         }
+        let mut values = 0;
         for block in out.chunks_mut(BLOCK) {
             let count = 2 * block.len();
-            points(
+            values += points(
                 &mut control,
                 &phases,
                 levels,
@@ -71,34 +69,40 @@ impl Voice {
             *word = *point as i32;
         }
         control.give(self);
+        values
     }
 }
 
-/// Fills a block with its next points.
+/// Fills a block with its next points, and gives the count of level values.
 fn points<const N: usize>(
     control: &mut Control,
     phases: &Phases<N>,
     levels: &Levels,
     points: &mut [i64],
-) {
+) -> usize {
     control.begin(points.len() / 2);
-    let mut made = 0;
+    let (mut made, mut values) = (0, 0);
     while made < points.len() {
         let (plan, count) = control.run(made, points.len());
         let run = &mut points[made..made + count];
         let positions = control.positions(made, count);
         match plan {
-            Plan::Steady(level) => phases.values(levels.level(level), level, positions, run),
+            Plan::Steady(level) => {
+                phases.values(levels.level(level), level, positions, run);
+                values += count;
+            }
             Plan::Fade(old, new, step) => {
                 let mut other = [0; RUN];
                 let other = &mut other[..count];
                 phases.values(levels.level(old), old, positions, run);
                 phases.values(levels.level(new), new, positions, other);
                 mix(run, other, step, control.fade());
+                values += 2 * count;
             }
         }
         made += count;
     }
+    values
 }
 
 /// Old values become near(((F - i) × old + i × new) / F), i from `step` on.

@@ -1,6 +1,6 @@
 //! The text of `player_facts`: glides, limits, the levels along a glide and the ends
-//! of their bands, and every number of every call, with whether the voice came back
-//! as it was.
+//! of their bands, the multiply counts of outputs, and every number of every call,
+//! with whether the voice came back as it was and the multiply count of a play.
 
 use super::damage::{with, Field};
 use super::{changed, K};
@@ -11,6 +11,18 @@ use renderer::voice::{open, order, play, seek, Card, Order, Voice};
 
 /// K with a fade of 4 points.
 const SLOW: [i32; 11] = [2, 1, 0, 0, 4, 0, 16384, 16384, -16384, 16384, 16384];
+
+/// K with a fade of 3 points, which ends inside an output.
+const ODD: [i32; 11] = [2, 1, 0, 0, 3, 0, 16384, 16384, -16384, 16384, 16384];
+
+/// The sizes of source document 002, N = 12 and B = 3, with a fade of 4 points: the
+/// sample next to P, and a mean of three points.
+const TWELVE: [i32; 34] = [
+    12, 1, 0, 3, 4, // sizes
+    0, 0, 0, 0, 0, 0, 16384, 0, 0, 0, 0, 0, // impulses
+    0, 0, 0, 0, 0, 16384, -16384, 0, 0, 0, 0, 0, // differences
+    16384, 8192, 4096, 0, 0, // taps
+];
 
 /// A silent store of 3 samples with top level 1: S, T, two lengths, 3 + 2 words.
 const SILENT: [i32; 9] = [3, 1, 3, 2, 0, 0, 0, 0, 0];
@@ -24,12 +36,17 @@ const FAR: u64 = (1 << 60) + 1;
 /// A point past the loudest, 2^29.
 const LOUD: u64 = (1 << 29) + 1;
 
-fn answered(label: &str, given: &Voice, (number, voice): (u32, Voice)) -> String {
+/// A number, and whether the voice came back as it was.
+fn number(label: &str, given: &Voice, (number, voice): (u32, Voice)) -> String {
     let state = match voice == *given {
         true => "kept",
         false => "moved",
     };
-    format!("{label} {number} {state}\n")
+    format!("{label} {number} {state}")
+}
+
+fn answered(label: &str, given: &Voice, answer: (u32, Voice)) -> String {
+    number(label, given, answer) + "\n"
 }
 
 fn opening(label: &str, rate: f32, top: u64) -> String {
@@ -155,6 +172,36 @@ fn bands() -> String {
     .concat()
 }
 
+/// One output more, and its multiply count.
+fn count_after(voice: &mut Voice, book: &[i32]) -> u64 {
+    let played = play(EDITION, voice, &lent(book, &SILENT), &mut [0]);
+    *voice = played.voice;
+    played.multiplies
+}
+
+/// Two outputs, and four more after a jump across the octave; then these four in one
+/// play.
+fn counts(label: &str, book: &[i32]) -> String {
+    let mut voice = fresh();
+    let mut words = [0; 2].map(|_| count_after(&mut voice, book)).to_vec();
+    let (_, jumped) = order(EDITION, &voice, Order::Jump(2.0));
+    voice = jumped;
+    words.extend([0; 4].map(|_| count_after(&mut voice, book)));
+    words.push(play(EDITION, &jumped, &lent(book, &SILENT), &mut [0; 4]).multiplies);
+    line(label, &words)
+}
+
+/// Fades that end inside an output and with it.
+fn all_counts() -> String {
+    [
+        counts("multiplies, F 1", &K),
+        counts("multiplies, F 3", &ODD),
+        counts("multiplies, F 4", &SLOW),
+        counts("multiplies, N 12, B 3", &TWELVE),
+    ]
+    .concat()
+}
+
 fn jumped(label: &str, voice: &Voice, rate: f32) -> String {
     answered(label, voice, order(EDITION, voice, Order::Jump(rate)))
 }
@@ -170,7 +217,8 @@ fn sought(label: &str, voice: &Voice, position: u64) -> String {
 
 fn played(label: &str, voice: &Voice, book: &[i32], store: &[i32], out: &mut [i16]) -> String {
     let answer = play(EDITION, voice, &lent(book, store), out);
-    answered(label, voice, (answer.number, answer.voice))
+    let answered = number(label, voice, (answer.number, answer.voice));
+    format!("{answered} {}\n", answer.multiplies)
 }
 
 fn orders() -> String {
@@ -378,6 +426,7 @@ pub fn text() -> String {
         glide(),
         glides_past_the_band(),
         bands(),
+        all_counts(),
         orders(),
         seeks(),
         state("fresh", &fresh()),

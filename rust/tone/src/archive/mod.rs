@@ -5,7 +5,7 @@
 //! [`VOICE_LENGTH`](crate::VOICE_LENGTH) is returned, before every other number,
 //! where a voice slice is not `VOICE_WORDS` long. A refusal writes nothing, but
 //! that a refused `open` writes the zero record, unless its slice has the wrong
-//! length.
+//! length, and a refused `play` a multiply count of 0.
 //!
 //! These are the only modules with unsafe code. A slice crosses as its pointer
 //! and its length. The archives read and write inside the slices that they are

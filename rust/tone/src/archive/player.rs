@@ -21,6 +21,7 @@ mod symbols {
             store_words: usize,
             out: *mut i16,
             out_count: usize,
+            multiplies: *mut u64,
         ) -> u32;
     }
 }
@@ -59,11 +60,18 @@ pub fn seek(voice: &mut [i32], position: u64) -> u32 {
     unsafe { symbols::tone_seek(voice.as_mut_ptr(), voice.len(), position) }
 }
 
-/// Play: 1 to 7, the numbers of [`check_store`], 13, 19, 14 to 17, 11.
-pub fn play(voice: &mut [i32], book: &[i32], store: &[i32], out: &mut [i16]) -> u32 {
-    // SAFETY: `book` and `store` are valid slices, only read; `voice` and `out`
-    // are valid slices whose exclusive borrows overlap neither each other nor
-    // `book` and `store`. Words of all four may be anything.
+/// Play: 1 to 7, the numbers of [`check_store`], 13, 19, 14 to 17, 11. Every call
+/// writes the multiply count, a refused one 0.
+pub fn play(
+    voice: &mut [i32],
+    book: &[i32],
+    store: &[i32],
+    out: &mut [i16],
+    multiplies: &mut u64,
+) -> u32 {
+    // SAFETY: `book` and `store` are valid slices, only read; `voice`, `out` and
+    // `multiplies` are valid, and their exclusive borrows overlap neither each
+    // other nor `book` and `store`. Words of all five may be anything.
     unsafe {
         symbols::tone_play(
             voice.as_mut_ptr(),
@@ -74,6 +82,7 @@ pub fn play(voice: &mut [i32], book: &[i32], store: &[i32], out: &mut [i16]) -> 
             store.len(),
             out.as_mut_ptr(),
             out.len(),
+            multiplies,
         )
     }
 }

@@ -81,7 +81,9 @@ fn the_example_flow() {
     assert_eq!(accepted(&built), "S 96000, T 2: 168005 words\n");
     let played = run!("play", book, store, "1", drive, out);
     // past 2, to 0.75, past 2 and 4, and on the way down past 15/16 of each
-    assert_eq!(accepted(&played), "100000 outputs, 6 fades\n");
+    let count = 100_000 * (4 * 12 + 2 * 20 + 1) + 6 * 64 * 2 * 12;
+    let expected = format!("100000 outputs, 6 fades, {count} multiplies, 89.09 per output\n");
+    assert_eq!(accepted(&played), expected);
     let bytes = fs::read(&out).unwrap();
     assert_eq!(bytes.len(), 44 + 2 * 100_000);
     assert_eq!(bytes[..44], wav_of(48000, &[0; 100_000])[..44]);

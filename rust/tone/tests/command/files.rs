@@ -155,6 +155,6 @@ fn progress_is_for_terminals() {
     // and none where standard error is a pipe
     assert_eq!(
         accepted(&stage.play("1", "play 10\nplay 20\n")),
-        "30 outputs, 0 fades\n"
+        "30 outputs, 0 fades, 270 multiplies, 9.00 per output\n"
     );
 }

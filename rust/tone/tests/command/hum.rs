@@ -84,8 +84,9 @@ fn the_test_drive_by_the_command() {
     assert_eq!(built, "S 6400, T 2: 11205 words\n");
     let drive = folder.write("drive.txt", drive());
     let played = accepted(&run!("play", book, store, "1", drive, out));
-    // a test of rust/drives has this count from the renderer
-    assert_eq!(played, "1280 outputs, 45 fades\n");
+    // a test of rust/drives has these counts from the renderer
+    let expected = "1280 outputs, 45 fades, 14400 multiplies, 11.25 per output\n";
+    assert_eq!(played, expected);
     let text = fs::read_to_string(repository().join("crates/test_drive/stdout")).unwrap();
     let samples: Vec<i16> = text.lines().map(|line| line.parse().unwrap()).collect();
     assert_eq!(fs::read(&out).unwrap(), wav_of(48000, &samples));

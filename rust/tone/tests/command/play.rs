@@ -15,8 +15,11 @@ fn play_writes_the_library_s_samples() {
     let drive = "# up and on\nplay 300\nglide 3.3 500\nplay 200\nplay 400\n\njump 0.3\nplay 1\n\
                  seek 268435456000\njump 7.99\nplay 100\nplay 0\nglide 0.0625 65536\nplay 77\n";
     let output = stage.play("1.1", drive);
-    // to level 1 past 2, to 0 at 0.3, and from there, once that one has ended, to 2
-    assert_eq!(accepted(&output), "1078 outputs, 3 fades\n");
+    // to level 1 past 2, to 0 at 0.3, and from there, once that one has ended, to 2: an
+    // output takes 4 x 12 + 2 x 20 + 1, and each of a fade's 64 points 2 x 12 more
+    let count = 1078 * 89 + 3 * 64 * 24;
+    let expected = format!("1078 outputs, 3 fades, {count} multiplies, 93.27 per output\n");
+    assert_eq!(accepted(&output), expected);
 
     let mut voice = Voice::open(1.1, 2).unwrap();
     let mut samples = stage.perform(&mut voice, 300);
@@ -40,7 +43,7 @@ fn play_writes_the_library_s_samples() {
 /// Three trembles across 2: the level stays down to 15/16 of it. Whatever F is, each
 /// fade counts once, also where it begins in one play and ends in the next.
 #[test]
-fn fades_are_counted() {
+fn fades_and_multiplies_are_counted() {
     for fade in [1, 2, 3, 64, 255, 256] {
         let mut book = K;
         book[4] = fade;
@@ -49,7 +52,11 @@ fn fades_are_counted() {
             let tremble =
                 format!("glide {low} 150\nplay 150\nplay 130\nglide 2.05 150\nplay 280\n");
             let output = stage.play("2", &tremble.repeat(3));
-            let expected = format!("1680 outputs, {fades} fades\n");
+            // 9 for an output, and 4 more for each point of a fade
+            let count = 1680 * 9 + fades * fade * 4;
+            let mean = f64::from(count) / 1680.0;
+            let expected =
+                format!("1680 outputs, {fades} fades, {count} multiplies, {mean:.2} per output\n");
             assert_eq!(accepted(&output), expected, "F {fade}, down to {low}");
         }
     }
@@ -75,7 +82,10 @@ fn sample_rate_is_written() {
         arguments.extend([book, store].map(|path| path.as_os_str()));
         arguments.push(OsStr::new("1.0"));
         arguments.extend([&drive, &out].map(|path| path.as_os_str()));
-        assert_eq!(accepted(&run(&arguments)), "2 outputs, 0 fades\n");
+        assert_eq!(
+            accepted(&run(&arguments)),
+            "2 outputs, 0 fades, 18 multiplies, 9.00 per output\n"
+        );
         assert_eq!(stage.out(), wav_of(44100, &[500, 1500]));
     }
 }
@@ -85,7 +95,7 @@ fn a_drive_without_plays_writes_an_empty_file() {
     let stage = Stage::small();
     assert_eq!(
         accepted(&stage.play("1", "# nothing\njump 2\nplay 0\n")),
-        "0 outputs, 0 fades\n"
+        "0 outputs, 0 fades, 0 multiplies\n"
     );
     assert_eq!(stage.out(), wav_of(48000, &[]));
 }
@@ -115,7 +125,7 @@ fn the_longest_play_and_one_more() {
     let stage = Stage::small();
     assert_eq!(
         accepted(&stage.play("1", "play 1048576")),
-        "1048576 outputs, 0 fades\n"
+        "1048576 outputs, 0 fades, 9437184 multiplies, 9.00 per output\n"
     );
     let mut voice = Voice::open(1.0, 1).unwrap();
     assert!(stage.out() == wav_of(48000, &stage.perform(&mut voice, 1_048_576)));

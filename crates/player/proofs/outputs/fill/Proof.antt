@@ -50,7 +50,7 @@ fill-by-requires : tie.Need-fill-by-requires
 fill-by-requires c κs =
     let r = c .before .before .before in
     let l = r .before .before .before .before in
-    ((λ n. r .stage-rows .ensures), (layout-is l, start l .pre .1 .0, start l .pre .1 .1))
+    ((λ n. r .stage-rows .ensures), (layout-is l, start l .pre .1 .0, start l .pre .1 .1, start l .pre .1 .2))
 
 same-length : tie.Need-same-length
 same-length c = search needs
@@ -72,7 +72,7 @@ part-fill-by-end c = search needs
 fill-by-requires-2 : tie.Need-fill-by-requires-2
 fill-by-requires-2 c κs =
     let l = c .before .before .before .before .before in
-    ((λ some. absurd (some refl)), (layout-is l, start l .pre .1 .0, start l .pre .1 .1))
+    ((λ some. absurd (some refl)), (layout-is l, start l .pre .1 .0, start l .pre .1 .1, start l .pre .1 .2))
 
 same-length-2 : tie.Need-same-length-2
 same-length-2 c = search needs

@@ -11,16 +11,19 @@ use lib.ListN.{length, drop, length-drop}
 use Rattle.arith.specs.Lists.{at, overwrite}
 use Rattle.arith.proofs.Lists.{at-outside, paste-none, paste-whole}
 use Rattle.book.specs.Book.{sizesOf}
-use Rattle.book.proofs.Accepted.{Accepted, accepted}
+use Rattle.book.proofs.Accepted.{Accepted, accepted, sizes-bounded, decimationTaps-length}
 use Rattle.control.specs.declared.Control.{Control}
 use Rattle.player.specs.declared.Voice.{Voice}
 use Rattle.player.specs.Outputs.{voiceAfter, outputs}
 use Rattle.points.specs.Points.{point}
 use Rattle.positions.specs.Runs.{controlAfter}
 use Rattle.points.specs.Runs.{runPoints}
-use Rattle.player.specs.Inner.{lineOf}
+use Rattle.multiplies.specs.Inner.{runValues}
+use Rattle.multiplies.proofs.Multiplies.{values-high, block-is}
+use Rattle.player.specs.Calls.{played}
+use Rattle.player.specs.Inner.{lineOf, acceptedPlay}
 use Rattle.player.proofs.Blocks.{length-outputs}
-use Rattle.player.proofs.Filled.{Filled, length-line, line-every, line-long, filled-more, filled-length, filled-ready, run-small, end-history}
+use Rattle.player.proofs.Filled.{Filled, length-line, line-every, line-long, filled-more, values-more, filled-length, filled-ready, run-small, end-history}
 use Rattle.control.specs.Valid.{Valid}
 use Rattle.values.specs.Layout.{LayoutOf}
 use Rattle.player.proofs.outputs.fill_by.Statement.{statement}
@@ -31,11 +34,11 @@ abbrev voiceWith : Control → List ℤ → Voice
 voiceWith control line = record { control = control; history = drop 128 line }
 
 abbrev Inv-loop : tie.InvT-loop
-Inv-loop table book store layout out₀ decimation control₀ line₀ i₀ out control line i =
-    Filled book store (voiceWith control₀ line₀) out₀ control line out i
+Inv-loop table book store layout out₀ decimation control₀ line₀ values₀ i₀ out control line values i =
+    Filled book store (voiceWith control₀ line₀) out₀ control line out i × (values ≡ runValues (sizesOf book .fade) control₀ i)
 
 abbrev μ-loop : tie.MeasureT-loop
-μ-loop table book store layout out₀ decimation control₀ line₀ i₀ out control line i = length out₀ - i
+μ-loop table book store layout out₀ decimation control₀ line₀ values₀ i₀ out control line values i = length out₀ - i
 
 -- ---- before the loop
 
@@ -101,17 +104,19 @@ module _ (c : tie.After-line-of Inv-loop μ-loop) where
       go (no h) = rw (at-outside history k (omega (arith, history-length))) (omega arith)
 
 loop-holds : tie.Need-loop-holds Inv-loop μ-loop
-unfolding voiceAfter
+unfolding voiceAfter runValues
 loop-holds c =
-    let s = start c in
-    record {
-      count = omega arith;
-      control = refl;
-      long = ap length (line-is c) ∙ length-line (history c) (history-length c);
-      points = refl;
-      small = rw (line-is c) (line-every (λ x. natAbs x ≤ 2 ^ 29) (omega arith) (history c) (small₀ c));
-      words = paste-none (out₀ s) 0 (outputs (b s) (store s) (voice₀ c) (length (out₀ s)));
-    }
+    let s = start c in (
+      record {
+        count = omega arith;
+        control = refl;
+        long = ap length (line-is c) ∙ length-line (history c) (history-length c);
+        points = refl;
+        small = rw (line-is c) (line-every (λ x. natAbs x ≤ 2 ^ 29) (omega arith) (history c) (small₀ c));
+        words = paste-none (out₀ s) 0 (outputs (b s) (store s) (voice₀ c) (length (out₀ s)));
+      },
+      refl,
+    )
 
 -- ---- a turn
 
@@ -123,7 +128,10 @@ module _ (a : tie.At-loop Inv-loop μ-loop) where
   i = a .loop .i
 
   filled : Filled (b s) (store s) (voice₀ (a .before)) (out₀ s) (a .loop .control) (a .loop .line) (a .loop .out) i
-  filled = a .loop .inv
+  filled = a .loop .inv .0
+
+  values-are : a .loop .values ≡ runValues (sizesOf (b s) .fade) (v s .control) i
+  values-are = a .loop .inv .1
 
   out-length : length (a .loop .out) ≡ length (out₀ s)
   out-length = filled-length filled
@@ -214,42 +222,105 @@ sub-keep-newest c = omega (arith, few (c .before .before .before .before .before
 keep-newest-requires : tie.Need-keep-newest-requires Inv-loop μ-loop
 keep-newest-requires c κs = (long (c .before .before .before .before .before .before), omega arith)
 
+-- the end of a turn
+module _ (c : tie.After-struct-known Inv-loop μ-loop) where
+  abbrev run : tie.After-next-points Inv-loop μ-loop
+  run = c .before .before .before .before .before .before .before .before .before .before
+
+  abbrev F : ℕ
+  F = sizesOf (b (first run)) .fade
+
+  abbrev begun : Control
+  begun = v (first run) .control
+
+  run-values : run .next-points .result .values ≡ runValues F (turn run .loop .control) (made run)
+  run-values = run .next-points .ensures .0 .3 ∙ ap (λ f. runValues f (turn run .loop .control) (made run)) (fade-is (turn run))
+
+  next-values : turn run .loop .values + run .next-points .result .values ≡ runValues F begun (i (turn run) + made run)
+  next-values = ap₂ _+_ (values-are (turn run)) run-values ∙ values-more (filled (turn run)) (made run)
+
+add-values : tie.Need-add-values Inv-loop μ-loop
+add-values c = let n = run c in omega (arith, next-values c, values-high (F c) (begun c) (i (turn n) + made n), room n, first n .pre .1 .3)
+
 add-i : tie.Need-add-i Inv-loop μ-loop
-add-i c = let n = c .before .before .before .before .before .before .before .before .before in omega (arith, room n, out-fits (first n))
+add-i c = let n = run c in omega (arith, room n, out-fits (first n))
 
 loop-less : tie.Need-loop-less Inv-loop μ-loop
-loop-less c = let n = c .before .before .before .before .before .before .before .before .before in omega (arith, room n, n .next-points .ensures .0 .0)
+loop-less c = let n = run c in omega (arith, room n, n .next-points .ensures .0 .0)
 
 loop-again : tie.Need-loop-again Inv-loop μ-loop
 loop-again c =
-    let n = c .before .before .before .before .before .before .before .before .before in
+    let n = run c in
     let a = turn n in
-    let w = c .before .before .before .before .before in
-    let control : n .next-points .result .control ≡ controlAfter (sizesOf (b (first n)) .fade) (a .loop .control) (made n) = n .next-points .ensures .0 .2 ∙ ap (λ F. controlAfter F (a .loop .control) (made n)) (fade-is a) in
-    filled-more (filled a) (length-history (a .before)) (made n) (few n) (room n) (line-e n) (points-small n) control (w .write-outputs .ensures) (c .before .before .keep-newest .ensures)
+    let w = c .before .before .before .before .before .before in
+    let control : n .next-points .result .control ≡ controlAfter (F c) (a .loop .control) (made n) = n .next-points .ensures .0 .2 ∙ ap (λ f. controlAfter f (a .loop .control) (made n)) (fade-is a) in
+    let more = filled-more (filled a) (length-history (a .before)) (made n) (few n) (room n) (line-e n) (points-small n) control (w .write-outputs .ensures) (c .before .before .before .keep-newest .ensures) in
+    (more, next-values c)
+
+-- ---- after the last turn
 
 history-of-requires : tie.Need-history-of-requires Inv-loop μ-loop
 history-of-requires c κs = filled (c .before) .small
 
+module _ (c : tie.After-history-of Inv-loop μ-loop) where
+  abbrev end : tie.At-loop Inv-loop μ-loop
+  end = c .before .before
+
+  abbrev u : tie.Start Inv-loop μ-loop
+  u = s end
+
+  abbrev n : ℕ
+  n = length (out₀ u)
+
+  all-made : i end ≡ n
+  all-made = omega (arith, out-length end, filled end .count, c .before .loop-test .left)
+
+  voice-after : _≡_ {A = Voice} (record { control = end .loop .control; history = c .history-of .result }) (voiceAfter (b u) (store u) (v u) n)
+  voice-after =
+      let l = end .before in
+      let history : c .history-of .result ≡ voiceAfter (b u) (store u) (voice₀ l) (i end) .history = c .history-of .ensures ∙ end-history (filled end) (length-history l) in
+      ap₂ {C = Voice} (λ d h. record { control = d; history = h }) (filled end .control) history ∙ ap₂ (voiceAfter (b u) (store u)) (voice-is l) all-made
+
+  words-after : end .loop .out ≡ outputs (b u) (store u) (v u) n
+  words-after =
+      let l = end .before in
+      let w : List ℤ = outputs (b u) (store u) (voice₀ l) n in
+      let all : length w ≡ n = length-outputs (b u) (store u) (voice₀ l) n in
+      filled end .words ∙ paste-whole (out₀ u) w (i end) (all-made ∙ sym all) all ∙ ap (λ x. outputs (b u) (store u) x n) (voice-is l)
+
+  values-after : end .loop .values ≡ runValues (sizesOf (b u) .fade) (v u .control) n
+  values-after = values-are end ∙ ap (runValues (sizesOf (b u) .fade) (v u .control)) all-made
+
+  abbrev taps : tie.After-decimation-taps Inv-loop μ-loop
+  taps = end .before .before .before .before
+
+  taps-length : length (taps .decimation-taps .result .now) ≡ sizesOf (b u) .decimation + 1
+  taps-length = ap length (taps .decimation-taps .ensures) ∙ decimationTaps-length (b u) (book u)
+
+sub-block-multiplies : tie.Need-sub-block-multiplies Inv-loop μ-loop
+sub-block-multiplies c = omega (arith, taps-length c)
+
+block-multiplies-requires : tie.Need-block-multiplies-requires Inv-loop μ-loop
+block-multiplies-requires c κs =
+    let f = sizes-bounded (b (u c)) (book (u c)) in
+    let l = out-length (end c) in (
+      omega (arith, layout-is (end c) .sizes .taps, f .taps-high),
+      omega (arith, values-after c, values-high (sizesOf (b (u c)) .fade) (v (u c) .control) (n c), l),
+      omega (arith, taps-length c, f .decimation-high),
+      omega (arith, l, u c .pre .1 .3),
+    )
+
 same-length : tie.Need-same-length Inv-loop μ-loop
-same-length c = out-length (c .before .before)
+same-length c = out-length (end (c .before))
 
 returns : tie.Need-returns Inv-loop μ-loop
+unfolding acceptedPlay
 returns c =
-    let a = c .before .before in
-    let u = s a in
-    let l = a .before in
-    let n = length (out₀ u) in
-    let e : i a ≡ n = omega (arith, out-length a, filled a .count) in
-    let history : c .history-of .result ≡ voiceAfter (b u) (store u) (voice₀ l) (i a) .history = c .history-of .ensures ∙ end-history (filled a) (length-history l) in
-    let w : List ℤ = outputs (b u) (store u) (voice₀ l) n in
-    let all : length w ≡ n = length-outputs (b u) (store u) (voice₀ l) n in (
-      ap₂ {C = Voice} (λ d h. record { control = d; history = h }) (filled a .control) history
-          ∙ ap₂ (voiceAfter (b u) (store u)) (voice-is l) e,
-      filled a .words
-          ∙ paste-whole (out₀ u) w (i a) (e ∙ sym all) all
-          ∙ ap (λ x. outputs (b u) (store u) x n) (voice-is l),
-    )
+    let h = c .before in
+    let sizes = sizesOf (b (u h)) in
+    let decimation : length (taps h .decimation-taps .result .now) - 1 ≡ sizes .decimation = omega (arith, taps-length h) in
+    let counted = c .block-multiplies .ensures ∙ block-is sizes (v (u h) .control) (n h) (values-after h) (layout-is (end h) .sizes .taps) (out-length (end h)) decimation in
+    ap₂ (λ x m. played 0 x m (end h .loop .out)) (voice-after h) counted ∙ ap (played 0 _ _) (words-after h)
 
 pub fill-by-spec : {M : Type 1} → statement M
 fill-by-spec =
@@ -269,9 +340,12 @@ fill-by-spec =
     mul-keep-newest
     sub-keep-newest
     keep-newest-requires
+    add-values
     add-i
     loop-less
     loop-again
     history-of-requires
+    sub-block-multiplies
+    block-multiplies-requires
     same-length
     returns)

@@ -20,7 +20,9 @@ tone: the driving-tone player, for studios and fitters
     tone play BOOK STORE RATE DRIVE OUT.wav
         Opens a voice at RATE for STORE, which names its S and T, makes the calls
         of DRIVE in their order and writes all samples that they play. Prints how
-        many outputs that are, and how many fades from level to level they took.
+        many outputs that are, how many fades from level to level they took, and
+        how many multiplies: 2N for each level value made, two in a fade and one
+        without at each point, and 2B+1 for each output.
         --sample-rate HZ   written to OUT.wav, which plays at the recorded
                            pitch for rate 1 if the recording had the same;
                            48000 if not given

@@ -8,6 +8,7 @@ use tone::{Refusal, Voice, MOST_OUTPUTS};
 use crate::arguments::PlayRequest;
 use crate::fades::{longest_play, Place};
 use crate::failure::Failure;
+use crate::totals::Totals;
 
 /// A call of a drive.
 #[derive(Clone, Copy, Debug, PartialEq)]
@@ -118,7 +119,7 @@ pub struct Player<'a> {
     book: &'a [i32],
     store: &'a [i32],
     out: Vec<i16>,
-    fades: u64,
+    totals: Totals,
 }
 
 impl<'a> Player<'a> {
@@ -141,13 +142,13 @@ impl<'a> Player<'a> {
             store,
             // One more than a play may have is enough to have it refused.
             out: vec![0; MOST_OUTPUTS + 1],
-            fades: 0,
+            totals: Totals::default(),
         })
     }
 
-    /// The fades that have begun.
-    pub fn fades(&self) -> u64 {
-        self.fades
+    /// What the calls so far came to.
+    pub fn totals(&self) -> Totals {
+        self.totals
     }
 
     /// Makes one call. Hands out the samples that it played: none but for play.
@@ -160,8 +161,9 @@ impl<'a> Player<'a> {
         }
     }
 
-    /// Plays in parts, so that each fade is seen: cuts leave samples and voice as
-    /// they are. A play that is refused for its count is made whole.
+    /// Plays in parts, so that each fade is seen: cuts leave samples, voice and the
+    /// sum of the multiplies as they are. A play that is refused for its count is
+    /// made whole.
     fn play(&mut self, count: usize) -> Result<&[i16], Refusal> {
         let part = match count {
             0..=MOST_OUTPUTS => longest_play(self.book),
@@ -170,8 +172,9 @@ impl<'a> Player<'a> {
         let count = count.min(self.out.len());
         for out in self.out[..count].chunks_mut(part) {
             let before = Place::of(&self.voice);
-            self.voice.play(self.book, self.store, out)?;
-            self.fades += u64::from(before.began(Place::of(&self.voice)));
+            self.totals.multiplies += self.voice.play(self.book, self.store, out)?;
+            self.totals.fades += u64::from(before.began(Place::of(&self.voice)));
+            self.totals.outputs += out.len() as u64;
         }
         Ok(&self.out[..count])
     }

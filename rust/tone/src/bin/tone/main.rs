@@ -23,6 +23,7 @@ mod failure;
 mod interrupt;
 mod output;
 mod progress;
+mod totals;
 mod wav;
 mod words;
 
@@ -121,8 +122,7 @@ fn play(request: &PlayRequest) -> Result<(), Failure> {
     }
     output.finish()?;
     drop(progress);
-    let (outputs, fades) = (header.samples(), player.fades());
-    say(format_args!("{outputs} outputs, {fades} fades\n"))
+    say(format_args!("{}\n", player.totals()))
 }
 
 /// The test hum, a block after another.

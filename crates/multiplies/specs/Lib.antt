@@ -1,0 +1,2 @@
+pub mod Multiplies
+pub mod Inner
