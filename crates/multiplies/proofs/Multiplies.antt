@@ -65,11 +65,12 @@ module _ (s : Sizes) (c : Control) where
   pub steady : (n : ℕ) → WithoutFades (s .fade) c n → multiplies s c n ≡ steadyMultiplies s n
   steady n h = omega (arith, by-values n, ap (λ v. v * (2 * s .taps)) (values-steady (s .fade) c n h))
 
-  -- the count of a block that is cut in two is the sum of the parts
-  pub multiplies-+ : (m n : ℕ) → multiplies s c (m + n) ≡ multiplies s c m + multiplies s (controlAfter (s .fade) c m) n
-  unfolding multiplies outputMultiplies
-  multiplies-+ m zero = rw (add-zero, add-zero)
-  multiplies-+ m (suc n) = rw (add-suc, controlAfter-+ (s .fade) c m n) (omega (arith, multiplies-+ m n))
+-- the count of a block that is cut in two is the sum of the parts
+pub multiplies-+ : (s : Sizes) (c : Control) (m n : ℕ) → multiplies s c (m + n) ≡ multiplies s c m + multiplies s (controlAfter (s .fade) c m) n
+multiplies-+ s c m n =
+    let later = controlAfter (s .fade) c m in
+    let parts = ap (λ v. v * (2 * s .taps)) (values-+ (s .fade) c m n) in
+    omega (arith, by-values s c (m + n), by-values s c m, by-values s later n, parts)
 
 -- N = 12, B = 3: the 55 an output of source document 002
 pub steady-55 : (s : Sizes) (c : Control) (n : ℕ) → s .taps ≡ 12 → s .decimation ≡ 3 → WithoutFades (s .fade) c n → multiplies s c n ≡ n * 55

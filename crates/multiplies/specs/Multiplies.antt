@@ -8,8 +8,8 @@ use Rattle.control.specs.declared.Control.{Control}
 use Rattle.control.specs.declared.Plan.{Plan}
 use Rattle.positions.specs.Runs.{firstPlan, secondPlan}
 
--- the level values that a point makes, by its i: in a fade both, also at i = F where the old one has weight 0, since both levels are read at P; without
--- a fade, i being 0, one
+-- the level values that a point makes, by its i: in a fade both, also at i = F where the old one has weight 0, since both levels are read
+-- at P; without a fade, where i is 0, one
 unfoldable pub valuesMade : ℕ → ℕ
 valuesMade i = cond (eqb i 0) 1 2
 
