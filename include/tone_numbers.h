@@ -32,7 +32,7 @@
  *    for the whole count. This holds for a count of 0 as well: pass a pointer to
  *    some element.
  *  - An array that is not const overlaps no other array of the call.
- * A pointer without a count is one element of such an array.
+ * A pointer without a count is to one element, under the same rules.
  *
  *
  * A BOOK AND A STORE
