@@ -4,20 +4,13 @@ use Prim.Native.Nat.{ℕ}
 use lib.IntN.{ℤ, pos}
 use lib.ListN.{replicate}
 use Rattle.arith.specs.Lists.{overwrite}
-use Rattle.book.specs.Book.{sizesOf}
 use Rattle.player.specs.declared.Voice.{Voice}
 use Rattle.control.specs.Moves.{noGlide, noFade}
-use Rattle.multiplies.specs.Multiplies.{multiplies}
-use Rattle.player.specs.Outputs.{voiceAfter, outputs}
-use Rattle.player.specs.Calls.{silence, Played, played}
+use Rattle.player.specs.Calls.{silence}
 
 -- a line of points before a run: the history from place 128 on, and room for 128 points before it
 unfoldable pub lineOf : List ℤ → List ℤ
 lineOf history = overwrite (replicate 209 (pos 0)) 128 history
-
--- what an accepted play of n outputs leaves
-unfoldable pub acceptedPlay : List ℤ → List ℤ → Voice → ℕ → Played
-acceptedPlay b store v n = played 0 (voiceAfter b store v n) (multiplies (sizesOf b) (v .control) n) (outputs b store v n)
 
 -- a voice at position 0 on a level, with no glide, no fade and a silent history
 unfoldable pub restingVoice : ℕ → ℕ → ℕ → Voice

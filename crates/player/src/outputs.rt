@@ -6,15 +6,11 @@ ghost use Prim.Native.Nat.{ℕ, _+_, _*_, _^_, _≤_, _<_, min};
 ghost use lib.IntN.{natAbs};
 ghost use lib.ListN.{length, drop};
 ghost use Rattle.arith.specs.Lists.{at, part, overwrite};
-ghost use Rattle.book.specs.Book.{sizesOf};
-ghost use Rattle.book.specs.Check.{bookNumber};
-ghost use Rattle.store.specs.Store.{topLevel};
-ghost use Rattle.store.specs.Check.{storeNumber};
-ghost use Rattle.player.specs.Calls.{played};
-ghost use Rattle.control.specs.Valid.{Valid};
+ghost use Rattle.refusals.specs.Refusals.{playNumber, pointBound};
+ghost use Rattle.player.specs.Calls.{played, playAnswer};
 ghost use Rattle.values.specs.Layout.{LayoutOf};
 ghost use Rattle.windows.specs.Inner.{TableOf};
-ghost use Rattle.player.specs.Inner.{lineOf, acceptedPlay};
+ghost use Rattle.player.specs.Inner.{lineOf};
 use crate::PlayAnswer;
 use crate::Voice;
 use decimation::write_outputs;
@@ -83,8 +79,8 @@ fn fill_by(
     out: &mut [i16],
 ) -> PlayAnswer
     requires { ⌜ ((length (now table) ≡ 0 → ⊥) → TableOf (now book) (now table)) ⌝ }
-    requires { ⌜ LayoutOf (now book) (now store) (v .control .top) layout × Valid (sizesOf (now book) .fade) (v .control) × ((k : ℕ) → k < 81 → natAbs (at (v .history) k) ≤ 2 ^ 29) × (length (now out) ≤ 1048576) ⌝ }
-    ensures { λ r. ⌜ played (r .number) (r .voice) (r .multiplies) (now (out .exit)) ≡ acceptedPlay (now (book .entry)) (now (store .entry)) v (length (now (out .entry))) ⌝ }
+    requires { ⌜ LayoutOf (now book) (now store) (v .control .top) layout × (playNumber (now book) (now store) (v .control) pointBound (v .history) (length (now out)) ≡ 0) ⌝ }
+    ensures { λ r. ⌜ played (r .number) (r .voice) (r .multiplies) (now (out .exit)) ≡ playAnswer (now (book .entry)) (now (store .entry)) v (now (out .entry)) ⌝ }
 {
     let decimation = book::decimation_taps(book);
     let history = v.history;
@@ -123,9 +119,8 @@ fn table_pays(outputs: usize, phases: usize, taps: usize) -> bool
 
 // Fills the output slice.
 pub(crate) fn fill(v: Voice, book: &[i32], store: &[i32], out: &mut [i16]) -> PlayAnswer
-    requires { ⌜ (bookNumber (now book) ≡ 0) × (storeNumber (now store) ≡ 0) × (v .control .top ≡ topLevel (now store)) ⌝ }
-    requires { ⌜ Valid (sizesOf (now book) .fade) (v .control) × ((k : ℕ) → k < 81 → natAbs (at (v .history) k) ≤ 2 ^ 29) × (length (now out) ≤ 1048576) ⌝ }
-    ensures { λ r. ⌜ played (r .number) (r .voice) (r .multiplies) (now (out .exit)) ≡ acceptedPlay (now (book .entry)) (now (store .entry)) v (length (now (out .entry))) ⌝ }
+    requires { ⌜ playNumber (now book) (now store) (v .control) pointBound (v .history) (length (now out)) ≡ 0 ⌝ }
+    ensures { λ r. ⌜ played (r .number) (r .voice) (r .multiplies) (now (out .exit)) ≡ playAnswer (now (book .entry)) (now (store .entry)) v (now (out .entry)) ⌝ }
 {
     let layout = layout_of(book, store);
     let phases = layout.phases;

@@ -1,7 +1,7 @@
 -- `marshal::play` meets its contract: the answer of the voice that the words hold. Assumes nothing.
 use borrow.Author.Needs.{needs}
 use borrow.Author.Tests.{eq-eqb, ne-eqb}
-use mathlib.Core.Path.{_≡_, ap, _∙_}
+use mathlib.Core.Path.{_≡_, refl, ap, _∙_}
 use mathlib.Core.Bool.{cond}
 use mathlib.Core.List.{List}
 use Prim.Native.Nat.{ℕ}
@@ -34,7 +34,7 @@ three-calls voice b store out v a words n left read play back =
 
 returns : tie.Need-returns
 unfolding playCrossing
-returns c = simp (ne-eqb _ _ (c .if1 .taken))
+returns c = simp (ne-eqb _ _ (c .if1 .taken)) refl
 
 voice-of-requires : tie.Need-voice-of-requires
 voice-of-requires c κs = search needs

@@ -1,5 +1,6 @@
 -- `multiplies::block_multiplies` meets its contract: no product passes 2^28. Assumes nothing.
 use borrow.Author.Needs.{needs}
+use mathlib.Core.Path.{refl}
 use Prim.Native.Nat.{_+_, _*_, _≤_}
 use native.Mathlib.Nat.{mul-le-mul}
 use native.Mathlib.Omega.{arith}
@@ -35,7 +36,7 @@ add-result-2 : tie.Need-add-result-2
 add-result-2 c = omega (arith, for-values c, for-outputs c)
 
 returns : tie.Need-returns
-returns c = search needs
+returns c = refl
 
 pub block-multiplies-spec : {M : Type 1} → statement M
 block-multiplies-spec =

@@ -4,8 +4,10 @@ use mathlib.Core.List.{List}
 use native.Mathlib.Omega.{arith}
 use borrow.Author.Needs.{needs}
 use lib.IntN.{ℤ}
+use lib.ListN.{length}
 use Rattle.book.proofs.Accepted.{Accepted, accepted, sizes-bounded}
 use Rattle.values.specs.Layout.{LayoutOf}
+use Rattle.player.proofs.Accepted.{PlayAccepted, play-accepted}
 use Rattle.player.proofs.outputs.fill.Statement.{statement}
 use Rattle.player.proofs.outputs.fill.Tie as tie
 
@@ -13,11 +15,14 @@ module _ (s : tie.Start) where
   abbrev b : List ℤ
   b = s .args .book .now
 
+  fine : PlayAccepted b (s .args .store .now) (s .args .v) (length (s .args .out .now))
+  fine = play-accepted b (s .args .store .now) (s .args .v) (length (s .args .out .now)) (s .pre)
+
   book : Accepted b
-  book = accepted b (s .pre .0 .0)
+  book = accepted b (fine .book-accepted)
 
 layout-of-requires : tie.Need-layout-of-requires
-layout-of-requires c κs = (c .pre .0 .0, c .pre .0 .1)
+layout-of-requires c κs = (fine c .book-accepted, fine c .store-accepted)
 
 -- the layout is that of the book and the store
 module _ (l : tie.After-layout-of) where
@@ -25,7 +30,7 @@ module _ (l : tie.After-layout-of) where
   start = l .before
 
   layout-is : LayoutOf (b start) (start .args .store .now) (start .args .v .control .top) (l .layout-of .result)
-  layout-is = subst (λ T. LayoutOf (b start) (start .args .store .now) T (l .layout-of .result)) (sym (start .pre .0 .2)) (l .layout-of .ensures)
+  layout-is = subst (λ T. LayoutOf (b start) (start .args .store .now) T (l .layout-of .result)) (sym (fine start .top)) (l .layout-of .ensures)
 
 table-pays-requires : tie.Need-table-pays-requires
 table-pays-requires c κs =
@@ -50,7 +55,7 @@ fill-by-requires : tie.Need-fill-by-requires
 fill-by-requires c κs =
     let r = c .before .before .before in
     let l = r .before .before .before .before in
-    ((λ n. r .stage-rows .ensures), (layout-is l, start l .pre .1 .0, start l .pre .1 .1, start l .pre .1 .2))
+    ((λ n. r .stage-rows .ensures), (layout-is l, start l .pre))
 
 same-length : tie.Need-same-length
 same-length c = search needs
@@ -72,7 +77,7 @@ part-fill-by-end c = search needs
 fill-by-requires-2 : tie.Need-fill-by-requires-2
 fill-by-requires-2 c κs =
     let l = c .before .before .before .before .before in
-    ((λ some. absurd (some refl)), (layout-is l, start l .pre .1 .0, start l .pre .1 .1, start l .pre .1 .2))
+    ((λ some. absurd (some refl)), (layout-is l, start l .pre))
 
 same-length-2 : tie.Need-same-length-2
 same-length-2 c = search needs

@@ -20,8 +20,9 @@ use Rattle.positions.specs.Runs.{controlAfter}
 use Rattle.points.specs.Runs.{runPoints}
 use Rattle.multiplies.specs.Inner.{runValues}
 use Rattle.multiplies.proofs.Multiplies.{values-high, block-is}
-use Rattle.player.specs.Calls.{played}
-use Rattle.player.specs.Inner.{lineOf, acceptedPlay}
+use Rattle.player.specs.Calls.{played, playAnswer}
+use Rattle.player.specs.Inner.{lineOf}
+use Rattle.player.proofs.Accepted.{PlayAccepted, play-accepted}
 use Rattle.player.proofs.Blocks.{length-outputs}
 use Rattle.player.proofs.Filled.{Filled, length-line, line-every, line-long, filled-more, values-more, filled-length, filled-ready, run-small, end-history}
 use Rattle.control.specs.Valid.{Valid}
@@ -58,11 +59,14 @@ module _ (s : tie.Start Inv-loop μ-loop) where
   out-fits : length out₀ * 2 < 2 ^ 64
   out-fits = omega arith
 
+  fine : PlayAccepted b store v (length out₀)
+  fine = play-accepted b store v (length out₀) (s .pre .1 .1)
+
   book : Accepted b
-  book = accepted b (s .pre .1 .0 .sizes .book-accepted)
+  book = accepted b (fine .book-accepted)
 
 decimation-taps-requires : tie.Need-decimation-taps-requires Inv-loop μ-loop
-decimation-taps-requires c κs = c .pre .1 .0 .sizes .book-accepted
+decimation-taps-requires c κs = fine c .book-accepted
 
 line-of-requires : tie.Need-line-of-requires Inv-loop μ-loop
 line-of-requires c κs = search needs
@@ -100,7 +104,7 @@ module _ (c : tie.After-line-of Inv-loop μ-loop) where
   small₀ k = go (decLt k 81)
     where
       go : Dec (k < 81) → natAbs (at history k) ≤ 2 ^ 29
-      go (yes h) = start .pre .1 .2 k h
+      go (yes h) = fine start .within k h
       go (no h) = rw (at-outside history k (omega (arith, history-length))) (omega arith)
 
 loop-holds : tie.Need-loop-holds Inv-loop μ-loop
@@ -156,7 +160,7 @@ next-points-requires c κs =
     let a = c .before .before .before in
     let u = s a in
     let r = c .before .run-length .ensures in
-    let ready = filled-ready (filled a) (u .pre .1 .1) in (
+    let ready = filled-ready (filled a) (fine u .valid) in (
       (
         subst (λ T. LayoutOf (b u) (store u) T (u .args .layout)) (sym (ready .1)) (layout-is a),
         subst (λ F. Valid F (a .loop .control)) (sym (fade-is a)) (ready .0),
@@ -199,14 +203,14 @@ module _ (n : tie.After-next-points Inv-loop μ-loop) where
   long = line-long (filled turn) (length-history (turn .before)) made few room line-e
 
   points-small : (k : ℕ) → natAbs (at line₁ k) ≤ 2 ^ 29
-  points-small = run-small (filled turn) (length-history (turn .before)) (book first) (first .pre .1 .1) made line-e
+  points-small = run-small (filled turn) (length-history (turn .before)) (book first) (fine first .valid) made line-e
 
 write-outputs-requires : tie.Need-write-outputs-requires Inv-loop μ-loop
 write-outputs-requires c κs =
     let n = c .before .before .before in
     let a = turn n in
     let u = s a in (
-      (u .pre .1 .0 .sizes .book-accepted, c .before .before .before .before .before .before .before .before .before .before .before .decimation-taps .ensures, few n, omega (arith, room n, out-length a)),
+      (fine u .book-accepted, c .before .before .before .before .before .before .before .before .before .before .before .decimation-taps .ensures, few n, omega (arith, room n, out-length a)),
       points-small n,
     )
 
@@ -240,7 +244,7 @@ module _ (c : tie.After-struct-known Inv-loop μ-loop) where
   next-values = ap₂ _+_ (values-are (turn run)) run-values ∙ values-more (filled (turn run)) (made run)
 
 add-values : tie.Need-add-values Inv-loop μ-loop
-add-values c = let n = run c in omega (arith, next-values c, values-high (F c) (begun c) (i (turn n) + made n), room n, first n .pre .1 .3)
+add-values c = let n = run c in omega (arith, next-values c, values-high (F c) (begun c) (i (turn n) + made n), room n, fine (first n) .few)
 
 add-i : tie.Need-add-i Inv-loop μ-loop
 add-i c = let n = run c in omega (arith, room n, out-fits (first n))
@@ -307,20 +311,20 @@ block-multiplies-requires c κs =
       omega (arith, layout-is (end c) .sizes .taps, f .taps-high),
       omega (arith, values-after c, values-high (sizesOf (b (u c)) .fade) (v (u c) .control) (n c), l),
       omega (arith, taps-length c, f .decimation-high),
-      omega (arith, l, u c .pre .1 .3),
+      omega (arith, l, fine (u c) .few),
     )
 
 same-length : tie.Need-same-length Inv-loop μ-loop
 same-length c = out-length (end (c .before))
 
 returns : tie.Need-returns Inv-loop μ-loop
-unfolding acceptedPlay
+unfolding playAnswer
 returns c =
     let h = c .before in
     let sizes = sizesOf (b (u h)) in
     let decimation : length (taps h .decimation-taps .result .now) - 1 ≡ sizes .decimation = omega (arith, taps-length h) in
     let counted = c .block-multiplies .ensures ∙ block-is sizes (v (u h) .control) (n h) (values-after h) (layout-is (end h) .sizes .taps) (out-length (end h)) decimation in
-    ap₂ (λ x m. played 0 x m (end h .loop .out)) (voice-after h) counted ∙ ap (played 0 _ _) (words-after h)
+    simp (u h .pre .1 .1) (ap₂ (λ x m. played 0 x m (end h .loop .out)) (voice-after h) counted ∙ ap (played 0 _ _) (words-after h))
 
 pub fill-by-spec : {M : Type 1} → statement M
 fill-by-spec =
