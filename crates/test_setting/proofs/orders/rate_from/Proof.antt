@@ -18,7 +18,7 @@ int-to-float-result c = le→leb (64 + c .before .args .state / 2 ^ 24) (2 ^ 24)
 
 returns : tie.Need-returns
 unfolding ofBits rateFrom
-returns c = fraction-made (64 + c .before .args .state / 2 ^ 24) (omega arith) (omega arith)
+returns c = fraction-made (64 + c .before .args .state / 2 ^ 24) 5 (omega arith) (omega arith)
 
 pub rate-from-spec : {M : Type 1} → statement M
 rate-from-spec = tie.close (tie.spec add-result int-to-float-result returns)
