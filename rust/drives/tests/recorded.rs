@@ -1,6 +1,6 @@
-//! The programs `recorded_drives`, `level_facts`, `player_facts` and `test_drive`:
-//! the drives of the first and the expected outputs of all are the renderer's, and
-//! they show what they were chosen for.
+//! The programs `recorded_drives`, `level_facts`, `player_facts`, `test_drive` and
+//! `drive_report`: the drives of the first and the expected outputs of all are the
+//! renderer's, and they show what they were chosen for.
 
 use drives::call::{lent, Call};
 use drives::facts;

@@ -5,7 +5,7 @@
 //! and its expected output, into its folder; see `drives::rattle`.
 //!
 //! recorded --facts FOLDER: writes the expected outputs of the programs `level_facts`,
-//! `player_facts` and `test_drive` into their folders in this one; see
+//! `player_facts`, `test_drive` and `drive_report` into their folders in this one; see
 //! `drives::facts`.
 
 use drives::recorded::small_drive;

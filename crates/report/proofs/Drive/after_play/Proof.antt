@@ -1,0 +1,79 @@
+-- `report::Drive::after_play` meets its contract. Assumes nothing.
+use borrow.Author.Needs.{needs}
+use mathlib.Core.Path.{_≡_, sym, ap, _∙_}
+use mathlib.Core.List.{[], _∷_, _++_, append-nil}
+use Prim.Native.Nat.{_+_}
+use lib.ListN.{take}
+use borrow.Author.Tests.{eq-eqb, ne-eqb}
+use native.Mathlib.Omega.{arith}
+use Rattle.report.specs.Printed.{played, lineText, linesText}
+use Rattle.report.specs.Report.{reported, passedOver}
+use Rattle.report.specs.Inner.{counted, tallied, afterCount}
+use Rattle.report.proofs.Drive.after_play.Statement.{statement}
+use Rattle.report.proofs.Drive.after_play.Tie as tie
+
+pass-over-requires : tie.Need-pass-over-requires
+pass-over-requires c κs = search needs
+
+same-length : tie.Need-same-length
+same-length c = search needs
+
+returns : tie.Need-returns
+unfolding afterCount
+returns c =
+    let s = c .before .before .before .before .before .before .before in
+    let a = s .args in
+    let e : afterCount (a .self .voice) (a .self .plays) (a .answer) (a .count) ≡ passedOver (a .self .voice) = simp (ne-eqb (a .answer .number) 0 (λ (z : a .answer .number ≡ 0). omega (arith, c .before .before .before .before .if1 .taken))) in
+    rw e (c .before .before .pass-over .ensures)
+
+cast-number : tie.Need-cast-number
+cast-number c = search needs
+
+add-number : tie.Need-add-number
+add-number c = search needs
+
+cast-level : tie.Need-cast-level
+cast-level c = search needs
+
+played-line-requires : tie.Need-played-line-requires
+played-line-requires c κs = search needs
+
+kept-count-requires : tie.Need-kept-count-requires
+kept-count-requires c κs = search needs
+
+kept-sum-requires : tie.Need-kept-sum-requires
+kept-sum-requires c κs = search needs
+
+kept-sum-requires-2 : tie.Need-kept-sum-requires-2
+kept-sum-requires-2 c κs = search needs
+
+same-length-2 : tie.Need-same-length-2
+same-length-2 c = search needs
+
+returns-2 : tie.Need-returns-2
+unfolding afterCount tallied counted linesText
+returns-2 c =
+    let line = c .before .before .before .before .before in
+    let s = line .before .before .before .before .before .before .before .before .before in
+    let a = s .args in
+    let n : a .answer .number ≡ 0 = omega (arith, line .before .before .before .before .before .before .if1 .left) in
+    let p = played (a .self .plays + 1) (a .count) (a .answer .multiplies) (a .answer .voice .control .fade .from) in
+    let e : afterCount (a .self .voice) (a .self .plays) (a .answer) (a .count) ≡ reported (a .answer .voice) (p ∷ []) = simp (eq-eqb (a .answer .number) 0 n) in
+    rw e (simp (c .before .before .kept-count .ensures, c .before .kept-sum .ensures, c .kept-sum2 .ensures), line .played-line .ensures .0 ∙ ap (λ t. take (a .at) (a .text .now) ++ t) (sym (append-nil (lineText p))), line .played-line .ensures .1)
+
+pub after-play-spec : {M : Type 1} → statement M
+after-play-spec =
+    tie.close
+    (tie.spec
+    pass-over-requires
+    same-length
+    returns
+    cast-number
+    add-number
+    cast-level
+    played-line-requires
+    kept-count-requires
+    kept-sum-requires
+    kept-sum-requires-2
+    same-length-2
+    returns-2)

@@ -1,0 +1,4 @@
+pub mod Printed
+pub mod Report
+pub mod Inner
+pub mod Whole
