@@ -239,6 +239,20 @@ impl Stage {
         run!("play", book, store, "--", rate, drive, out)
     }
 
+    pub fn report(&self, rate: &str, drive: &str) -> Output {
+        self.report_with(&[], rate, drive)
+    }
+
+    /// A report with options before its arguments.
+    pub fn report_with(&self, options: &[&OsStr], rate: &str, drive: &str) -> Output {
+        let drive = self.folder.write("drive.txt", drive);
+        let (book, store) = (self.folder.path("book.txt"), self.folder.path("hum.store"));
+        let operands = [book.as_os_str(), store.as_os_str(), OsStr::new("--")];
+        let rest = [OsStr::new(rate), drive.as_os_str()];
+        let command = [OsStr::new("report")];
+        run(&[&command[..], options, &operands, &rest].concat())
+    }
+
     /// Plays with another store in the file.
     pub fn play_store(&self, store: &[i32], rate: &str, drive: &str) -> Output {
         self.folder.write("hum.store", bytes_of(store));

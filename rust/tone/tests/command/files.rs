@@ -93,37 +93,38 @@ fn links_and_special_files() {
 /// A signal in the middle of a long drive: the temporary file goes.
 #[cfg(unix)]
 #[test]
-fn an_interrupted_play_leaves_nothing() {
-    let stage = Stage::small();
-    let folder = &stage.folder;
-    let drive = folder.write("drive.txt", "play 1048576\n".repeat(300));
-    let child = Command::new(env!("CARGO_BIN_EXE_tone"))
-        .arg("play")
-        .args([folder.path("book.txt"), folder.path("hum.store")])
-        .arg("1")
-        .args([drive, folder.path("out.wav")])
-        .stderr(Stdio::piped())
-        .spawn()
-        .unwrap();
-    let begun = Instant::now();
-    while folder.names().len() == 3 && begun.elapsed() < Duration::from_secs(30) {
-        sleep(Duration::from_millis(2));
+fn an_interrupted_drive_leaves_nothing() {
+    for (command, out) in [("play", "out.wav"), ("report", "--html=out.html")] {
+        let stage = Stage::small();
+        let folder = &stage.folder;
+        folder.write("drive.txt", "play 1048576\n".repeat(300));
+        let child = Command::new(env!("CARGO_BIN_EXE_tone"))
+            .args([command, "book.txt", "hum.store", "1", "drive.txt", out])
+            .current_dir(&folder.path)
+            .stdout(Stdio::null())
+            .stderr(Stdio::piped())
+            .spawn()
+            .unwrap();
+        let begun = Instant::now();
+        while folder.names().len() == 3 && begun.elapsed() < Duration::from_secs(30) {
+            sleep(Duration::from_millis(2));
+        }
+        let hidden = folder.names();
+        let kill = format!("kill -TERM {}", child.id());
+        assert!(Command::new("sh")
+            .args(["-c", &kill])
+            .status()
+            .unwrap()
+            .success());
+        let output = child.wait_with_output().unwrap();
+        assert!(
+            hidden.iter().any(|name| name.ends_with(".tmp")),
+            "{hidden:?}"
+        );
+        assert_eq!(error_text(&output), "tone: interrupted\n");
+        assert_eq!(output.status.code(), Some(130));
+        stage.left_nothing();
     }
-    let hidden = folder.names();
-    let kill = format!("kill -TERM {}", child.id());
-    assert!(Command::new("sh")
-        .args(["-c", &kill])
-        .status()
-        .unwrap()
-        .success());
-    let output = child.wait_with_output().unwrap();
-    assert!(
-        hidden.iter().any(|name| name.ends_with(".tmp")),
-        "{hidden:?}"
-    );
-    assert_eq!(error_text(&output), "tone: interrupted\n");
-    assert_eq!(output.status.code(), Some(130));
-    stage.left_nothing();
 }
 
 /// Runs a command on a terminal of its own, and passes on what it shows.

@@ -12,4 +12,6 @@ mod hum;
 #[path = "../places/mod.rs"]
 mod places;
 mod play;
+mod report;
+mod sheet;
 mod usage;

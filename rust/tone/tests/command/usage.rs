@@ -10,6 +10,7 @@ fn help_and_version() {
             "tone check BOOK",
             "tone build BOOK RECORDING.wav T STORE\n",
             "tone play BOOK STORE RATE DRIVE OUT.wav\n",
+            "tone report BOOK STORE RATE DRIVE [--html OUT.html]\n",
             "tone hum COUNT OUT.wav\n",
             "--sample-rate",
             "Exit status",
@@ -40,8 +41,20 @@ fn wrong_usage() {
     unusable(&run!("play", "a", "b", "1", "d"), &play);
     // S and T are in the store, and no arguments
     unusable(&run!("play", "a", "b", "3", "1", "1", "d", "o"), &play);
+    let report = [
+        "wrong count",
+        "tone report BOOK STORE RATE DRIVE [--html OUT.html]:",
+    ];
+    unusable(&run!("report", "a", "b", "1"), &report);
+    unusable(&run!("report", "a", "b", "1", "d", "o"), &report);
     unusable(&run!("check", "--fast", "a"), &["no option --fast"]);
-    for name in ["check", "build"] {
+    unusable(&run!("check", "--fast=3", "a"), &["no option --fast=3"]);
+    for name in ["check", "build", "play", "hum", "tune"] {
+        let html = ["--html goes with tone report"];
+        unusable(&run!(name, "--html", "o"), &html);
+        unusable(&run!(name, "--html=o"), &html);
+    }
+    for name in ["check", "build", "report"] {
         let output = run!(name, "--sample-rate", "8000", "a");
         unusable(&output, &["goes with tone play and tone hum"]);
     }
@@ -71,5 +84,10 @@ fn wrong_numbers_for_play() {
     unusable(
         &run!("play", "--sample-rate"),
         &["--sample-rate takes a number"],
+    );
+    unusable(&run!("report", "a", "--html"), &["--html takes a file"]);
+    unusable(
+        &run!("report", "a", "b", "one", "d"),
+        &["RATE", "not a decimal"],
     );
 }

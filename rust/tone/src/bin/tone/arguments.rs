@@ -1,7 +1,7 @@
 //! The command line.
 
-use std::ffi::OsString;
-use std::path::PathBuf;
+use std::ffi::{OsStr, OsString};
+use std::path::{Path, PathBuf};
 
 use crate::drive;
 use crate::failure::Failure;
@@ -26,6 +26,16 @@ tone: the driving-tone player, for studios and fitters
         --sample-rate HZ   written to OUT.wav, which plays at the recorded
                            pitch for rate 1 if the recording had the same;
                            48000 if not given
+
+    tone report BOOK STORE RATE DRIVE [--html OUT.html]
+        The report of a drive: plays it as tone play does, but writes no sound
+        and goes on after a line that is refused. Prints a line for each play
+        that is accepted, with its number, its outputs, its multiplies and the
+        level at its end, in a fade the old one; \"refused\" for a call that is
+        refused and for a line that is none; at last \"total\" with the sums of
+        outputs and multiplies. Standard error has why each line was refused.
+        --html OUT.html    also writes a sheet to print, which shows the level,
+                           the fades and what they cost over time, and each call
 
     tone hum COUNT OUT.wav
         Writes the first COUNT samples of the test hum, which anyone can make
@@ -53,10 +63,12 @@ DRIVE          a text with a call on each line:
                    play OUTPUTS         up to 1048576 on a line
                Blank lines, and lines that begin with #, are passed over.
 OUT.wav        a 16-bit mono PCM WAV file.
+OUT.html       one HTML file that needs no other, for A4 paper.
 
-A refused call ends the command: its number and meaning, and the line of DRIVE,
-are written to standard error; with a refused STORE, that it is to be built again.
-STORE and OUT.wav are written whole or not at all.
+A refused call ends the command, but for a line of DRIVE in tone report: its number
+and meaning, and the line of DRIVE, are written to standard error; with a refused
+STORE, that it is to be built again. STORE, OUT.wav and OUT.html are written whole
+or not at all.
 
 Exit status: 0 done, 1 refused, 2 arguments or files that cannot be used,
 130 interrupted.
@@ -78,6 +90,8 @@ pub enum Request {
     Build(BuildRequest),
     /// `tone play`
     Play(PlayRequest),
+    /// `tone report`
+    Report(ReportRequest),
     /// `tone hum`
     Hum(HumRequest),
 }
@@ -102,9 +116,9 @@ pub struct BuildRequest {
     pub store: PathBuf,
 }
 
-/// `tone play BOOK STORE RATE DRIVE OUT.wav`
+/// `BOOK STORE RATE DRIVE`: what a drive is played with.
 #[derive(Debug)]
-pub struct PlayRequest {
+pub struct Setting {
     /// BOOK
     pub book: PathBuf,
     /// STORE
@@ -113,10 +127,42 @@ pub struct PlayRequest {
     pub rate: f32,
     /// DRIVE
     pub drive: PathBuf,
+}
+
+impl Setting {
+    fn read([book, store, rate, drive]: [&OsString; 4]) -> Result<Setting, Failure> {
+        Ok(Setting {
+            book: book.into(),
+            store: store.into(),
+            rate: opening_rate(rate)?,
+            drive: drive.into(),
+        })
+    }
+
+    /// The files that are read, which no output may replace.
+    pub fn inputs(&self) -> [&Path; 3] {
+        [&self.book, &self.store, &self.drive]
+    }
+}
+
+/// `tone play BOOK STORE RATE DRIVE OUT.wav`
+#[derive(Debug)]
+pub struct PlayRequest {
+    /// BOOK STORE RATE DRIVE
+    pub setting: Setting,
     /// OUT.wav
     pub out: PathBuf,
     /// HZ
     pub sample_rate: u32,
+}
+
+/// `tone report BOOK STORE RATE DRIVE`
+#[derive(Debug)]
+pub struct ReportRequest {
+    /// BOOK STORE RATE DRIVE
+    pub setting: Setting,
+    /// OUT.html
+    pub html: Option<PathBuf>,
 }
 
 /// `tone hum COUNT OUT.wav`
@@ -137,6 +183,42 @@ struct Given {
     help: bool,
     version: bool,
     sample_rate: Option<u32>,
+    html: Option<PathBuf>,
+}
+
+impl Given {
+    /// Takes an option with a value, which follows `=` or is the next argument.
+    fn take(
+        &mut self,
+        option: &str,
+        mut rest: impl Iterator<Item = OsString>,
+    ) -> Result<(), Failure> {
+        let (name, value) = match option.split_once('=') {
+            Some((name, value)) => (name, Some(value.into())),
+            None => (option, None),
+        };
+        let mut value = |what: &str| {
+            let value = value.clone().or_else(|| rest.next());
+            value.ok_or_else(|| misused(&format!("{name} takes {what}")))
+        };
+        match name {
+            "--sample-rate" => self.sample_rate = Some(sample_rate(&value("a number")?)?),
+            "--html" => self.html = Some(value("a file")?.into()),
+            _ => return Err(misused(&format!("no option {option}"))),
+        }
+        Ok(())
+    }
+
+    /// Tests that the options are the command's.
+    fn fit(&self, command: &OsStr) -> Result<(), Failure> {
+        if self.sample_rate.is_some() && command != "play" && command != "hum" {
+            return Err(misused("--sample-rate goes with tone play and tone hum"));
+        }
+        if self.html.is_some() && command != "report" {
+            return Err(misused("--html goes with tone report"));
+        }
+        Ok(())
+    }
 }
 
 /// Reads the arguments that follow the command's name.
@@ -151,9 +233,11 @@ pub fn read(arguments: impl Iterator<Item = OsString>) -> Result<Request, Failur
     let Some((command, operands)) = given.operands.split_first() else {
         return Err(misused("no command"));
     };
-    if given.sample_rate.is_some() && command != "play" && command != "hum" {
-        return Err(misused("--sample-rate goes with tone play and tone hum"));
-    }
+    given.fit(command)?;
+    request(command, operands, &given)
+}
+
+fn request(command: &OsStr, operands: &[OsString], given: &Given) -> Result<Request, Failure> {
     let sample_rate = given.sample_rate.unwrap_or(SAMPLE_RATE);
     match (command.to_str(), operands) {
         (Some("check"), [book]) => Ok(Request::Check(CheckRequest { book: book.into() })),
@@ -164,22 +248,22 @@ pub fn read(arguments: impl Iterator<Item = OsString>) -> Result<Request, Failur
             store: store.into(),
         })),
         (Some("play"), [book, store, rate, drive, out]) => Ok(Request::Play(PlayRequest {
-            book: book.into(),
-            store: store.into(),
-            rate: opening_rate(rate)?,
-            drive: drive.into(),
+            setting: Setting::read([book, store, rate, drive])?,
             out: out.into(),
             sample_rate,
+        })),
+        (Some("report"), [book, store, rate, drive]) => Ok(Request::Report(ReportRequest {
+            setting: Setting::read([book, store, rate, drive])?,
+            html: given.html.clone(),
         })),
         (Some("hum"), [count, out]) => Ok(Request::Hum(HumRequest {
             count: number("COUNT", count)?,
             out: out.into(),
             sample_rate,
         })),
-        (Some(name @ ("check" | "build" | "play" | "hum")), _) => Err(misused(&format!(
-            "wrong count of arguments, usage is {}",
-            usage(name)
-        ))),
+        (Some(name @ ("check" | "build" | "play" | "report" | "hum")), _) => Err(misused(
+            &format!("wrong count of arguments, usage is {}", usage(name)),
+        )),
         _ => Err(misused(&format!("no command {}", command.display()))),
     }
 }
@@ -192,16 +276,8 @@ fn sorted(mut arguments: impl Iterator<Item = OsString>) -> Result<Given, Failur
             Some("--") => given.operands.extend(arguments.by_ref()),
             Some("--help" | "-h") => given.help = true,
             Some("--version" | "-V") => given.version = true,
-            Some("--sample-rate") => {
-                let value = arguments.next();
-                let value = value.ok_or_else(|| misused("--sample-rate takes a number"))?;
-                given.sample_rate = Some(sample_rate(&value)?);
-            }
             Some(option) if option.starts_with('-') && option.len() > 1 => {
-                let Some(value) = option.strip_prefix("--sample-rate=") else {
-                    return Err(misused(&format!("no option {option}")));
-                };
-                given.sample_rate = Some(sample_rate(&value.into())?);
+                given.take(option, arguments.by_ref())?;
             }
             _ => given.operands.push(argument),
         }

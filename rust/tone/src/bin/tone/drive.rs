@@ -1,14 +1,11 @@
-//! Drives: their text, and playing them.
+//! The text of a drive.
 
 use std::fs;
 use std::path::Path;
 
-use tone::{Refusal, Voice, MOST_OUTPUTS};
+use tone::MOST_OUTPUTS;
 
-use crate::arguments::PlayRequest;
-use crate::fades::{longest_play, Place};
 use crate::failure::Failure;
-use crate::totals::Totals;
 
 /// A call of a drive.
 #[derive(Clone, Copy, Debug, PartialEq)]
@@ -23,37 +20,50 @@ pub enum Call {
     Play(usize),
 }
 
-/// A call, and its line in the text.
+/// A line that is neither blank nor a comment.
 #[derive(Clone, Copy, Debug, PartialEq)]
-pub struct Line {
+pub struct Line<'a> {
     /// Counted from 1.
     pub number: usize,
-    /// What the line asks for.
-    pub call: Call,
+    /// Without the blanks around it.
+    pub text: &'a str,
+}
+
+impl Line<'_> {
+    /// What the line asks for, or what is wrong with its form.
+    pub fn call(&self) -> Result<Call, String> {
+        read_call(self.text)
+    }
+
+    /// The line in a message about its file.
+    pub fn place(&self, path: &Path) -> String {
+        format!("{}:{}", path.display(), self.number)
+    }
 }
 
 /// Reads a drive's text from a file.
-pub fn read_file(path: &Path) -> Result<Vec<Line>, Failure> {
-    let text =
-        fs::read_to_string(path).map_err(|error| Failure::unusable(path.display(), error))?;
-    read(&text)
-        .map_err(|(number, fault)| Failure::unusable(format!("{}:{number}", path.display()), fault))
+pub fn read_file(path: &Path) -> Result<String, Failure> {
+    fs::read_to_string(path).map_err(|error| Failure::unusable(path.display(), error))
 }
 
-/// The calls of a text, or the number of the first line that is none and what
+/// The lines of a text, whatever they ask for.
+pub fn lines(text: &str) -> impl Iterator<Item = Line<'_>> {
+    let numbered = text.lines().zip(1..).map(|(line, number)| Line {
+        number,
+        text: line.trim(),
+    });
+    numbered.filter(|line| !line.text.is_empty() && !line.text.starts_with('#'))
+}
+
+/// The lines of a text with their calls, or the first line that is none and what
 /// is wrong with it.
-fn read(text: &str) -> Result<Vec<Line>, (usize, String)> {
-    let mut lines = Vec::new();
-    for (index, line) in text.lines().enumerate() {
-        let number = index + 1;
-        let line = line.trim();
-        if line.is_empty() || line.starts_with('#') {
-            continue;
-        }
-        let call = read_call(line).map_err(|fault| (number, fault))?;
-        lines.push(Line { number, call });
-    }
-    Ok(lines)
+pub fn calls(text: &str) -> Result<Vec<(Line<'_>, Call)>, (Line<'_>, String)> {
+    lines(text)
+        .map(|line| match line.call() {
+            Ok(call) => Ok((line, call)),
+            Err(fault) => Err((line, fault)),
+        })
+        .collect()
 }
 
 fn read_call(line: &str) -> Result<Call, String> {
@@ -103,81 +113,14 @@ pub fn decimal_rate(text: &str) -> Option<f32> {
     (some && digits(whole) && digits(fraction)).then(|| text.parse().ok())?
 }
 
-/// The outputs that all plays of a drive make. A play of too many is refused,
+/// The outputs that all plays of these calls make. A play of too many is refused,
 /// so it makes none.
-pub fn outputs(lines: &[Line]) -> u64 {
-    let played = |line: &Line| match line.call {
+pub fn outputs(calls: impl Iterator<Item = Call>) -> u64 {
+    let played = |call| match call {
         Call::Play(count) if count <= MOST_OUTPUTS => count as u64,
         _ => 0,
     };
-    lines.iter().map(played).sum()
-}
-
-/// A voice with what its plays are lent.
-pub struct Player<'a> {
-    voice: Voice,
-    book: &'a [i32],
-    store: &'a [i32],
-    out: Vec<i16>,
-    totals: Totals,
-}
-
-impl<'a> Player<'a> {
-    /// Opens the voice for the store, which is tested first: T stands in it. The
-    /// book is tested here by a play of no outputs, which changes nothing,
-    /// rather than at the first play.
-    pub fn open(
-        book: &'a [i32],
-        store: &'a [i32],
-        request: &PlayRequest,
-    ) -> Result<Player<'a>, Failure> {
-        let refused = |refusal| Failure::refused("opening", refusal);
-        let top = tone::top_level(store)
-            .map_err(|refusal| Failure::refused_store(&request.store, refusal))?;
-        let mut voice = Voice::open(request.rate, top).map_err(refused)?;
-        voice.play(book, store, &mut []).map_err(refused)?;
-        Ok(Player {
-            voice,
-            book,
-            store,
-            // One more than a play may have is enough to have it refused.
-            out: vec![0; MOST_OUTPUTS + 1],
-            totals: Totals::default(),
-        })
-    }
-
-    /// What the calls so far came to.
-    pub fn totals(&self) -> Totals {
-        self.totals
-    }
-
-    /// Makes one call. Hands out the samples that it played: none but for play.
-    pub fn perform(&mut self, line: &Line) -> Result<&[i16], Refusal> {
-        match line.call {
-            Call::Jump(rate) => self.voice.jump(rate).map(|()| &[][..]),
-            Call::Glide(rate, count) => self.voice.glide(rate, count).map(|()| &[][..]),
-            Call::Seek(position) => self.voice.seek(position).map(|()| &[][..]),
-            Call::Play(count) => self.play(count),
-        }
-    }
-
-    /// Plays in parts, so that each fade is seen: cuts leave samples, voice and the
-    /// sum of the multiplies as they are. A play that is refused for its count is
-    /// made whole.
-    fn play(&mut self, count: usize) -> Result<&[i16], Refusal> {
-        let part = match count {
-            0..=MOST_OUTPUTS => longest_play(self.book),
-            _ => self.out.len(),
-        };
-        let count = count.min(self.out.len());
-        for out in self.out[..count].chunks_mut(part) {
-            let before = Place::of(&self.voice);
-            self.totals.multiplies += self.voice.play(self.book, self.store, out)?;
-            self.totals.fades += u64::from(before.began(Place::of(&self.voice)));
-            self.totals.outputs += out.len() as u64;
-        }
-        Ok(&self.out[..count])
-    }
+    calls.map(played).sum()
 }
 
 #[cfg(test)]
@@ -187,8 +130,11 @@ mod tests {
     #[test]
     fn every_kind_of_line() {
         let text = "# a drive\n\njump 1.5\n\tglide 2 48000 \r\nseek 268435456\nplay 20\nplay 0";
-        let lines = read(text).unwrap();
-        let calls: Vec<(usize, Call)> = lines.iter().map(|line| (line.number, line.call)).collect();
+        let calls = calls(text).unwrap();
+        let read: Vec<(usize, Call)> = calls
+            .iter()
+            .map(|(line, call)| (line.number, *call))
+            .collect();
         let expected = [
             (3, Call::Jump(1.5)),
             (4, Call::Glide(2.0, 48000)),
@@ -196,8 +142,9 @@ mod tests {
             (6, Call::Play(20)),
             (7, Call::Play(0)),
         ];
-        assert_eq!(calls, expected);
-        assert_eq!(outputs(&lines), 20);
+        assert_eq!(read, expected);
+        assert_eq!(calls[1].0.text, "glide 2 48000");
+        assert_eq!(outputs(read.iter().map(|(_, call)| *call)), 20);
     }
 
     #[test]
@@ -223,18 +170,20 @@ mod tests {
         ];
         for line in bad {
             let text = format!("play 1\n\n{line}\nplay 1\n");
-            assert_eq!(read(&text).unwrap_err().0, 3, "{line}");
+            let (found, _) = calls(&text).unwrap_err();
+            assert_eq!((found.number, found.text), (3, line));
+            assert_eq!(lines(&text).count(), 3, "the reader of lines goes on");
         }
     }
 
     #[test]
     fn numbers_past_a_type_are_its_largest() {
         let text = "glide 1 4294967296\nseek 18446744073709551616\nplay 99999999999999999999999";
-        let lines = read(text).unwrap();
-        assert_eq!(lines[0].call, Call::Glide(1.0, u32::MAX));
-        assert_eq!(lines[1].call, Call::Seek(u64::MAX));
-        assert_eq!(lines[2].call, Call::Play(usize::MAX));
-        assert_eq!(outputs(&lines), 0);
+        let read: Vec<Call> = lines(text).map(|line| line.call().unwrap()).collect();
+        assert_eq!(read[0], Call::Glide(1.0, u32::MAX));
+        assert_eq!(read[1], Call::Seek(u64::MAX));
+        assert_eq!(read[2], Call::Play(usize::MAX));
+        assert_eq!(outputs(read.into_iter()), 0);
     }
 
     #[test]

@@ -1,11 +1,13 @@
 //! The command `tone`, for studios and fitters: tests filter books, builds the
-//! octave levels of recordings, plays drives into WAV files, and makes the test hum.
-//! Every call is the library's, and a refusal is shown with its number.
+//! octave levels of recordings, plays drives into WAV files, reports on drives, and
+//! makes the test hum. Every call is the library's, and a refusal is shown with its
+//! number.
 //!
 //! ```text
 //! tone check BOOK
 //! tone build BOOK RECORDING.wav T STORE
 //! tone play BOOK STORE RATE DRIVE OUT.wav
+//! tone report BOOK STORE RATE DRIVE [--html OUT.html]
 //! tone hum COUNT OUT.wav
 //! ```
 //!
@@ -22,7 +24,9 @@ mod failure;
 #[allow(unsafe_code)]
 mod interrupt;
 mod output;
+mod player;
 mod progress;
+mod report;
 mod totals;
 mod wav;
 mod words;
@@ -30,13 +34,14 @@ mod words;
 use std::env;
 use std::fmt;
 use std::io::Write;
-use std::path::Path;
 use std::process::ExitCode;
 
 use arguments::{BuildRequest, CheckRequest, HumRequest, PlayRequest, Request};
 use failure::Failure;
 use output::Output;
+use player::Player;
 use progress::Progress;
+use totals::Totals;
 
 /// Samples of the test hum that are made at once.
 const HUM_BLOCK: usize = 4096;
@@ -59,6 +64,7 @@ fn run() -> Result<(), Failure> {
         Request::Check(request) => check(&request),
         Request::Build(request) => build(&request),
         Request::Play(request) => play(&request),
+        Request::Report(request) => report::report(&request),
         Request::Hum(request) => hum(&request),
     }
 }
@@ -101,28 +107,31 @@ fn build(request: &BuildRequest) -> Result<(), Failure> {
 }
 
 fn play(request: &PlayRequest) -> Result<(), Failure> {
-    let book = words::read_book(&request.book)?;
-    let store = words::read_store(&request.store)?;
-    let lines = drive::read_file(&request.drive)?;
-    let header = wav::Header::new(request.sample_rate, drive::outputs(&lines))
-        .map_err(|fault| Failure::unusable(request.drive.display(), fault))?;
-    let mut player = drive::Player::open(&book, &store, request)?;
-    let inputs: [&Path; 3] = [&request.book, &request.store, &request.drive];
-    let mut output = Output::create(&request.out, &inputs)?;
+    let setting = &request.setting;
+    let book = words::read_book(&setting.book)?;
+    let store = words::read_store(&setting.store)?;
+    let text = drive::read_file(&setting.drive)?;
+    let calls = drive::calls(&text)
+        .map_err(|(line, fault)| Failure::unusable(line.place(&setting.drive), fault))?;
+    let outputs = drive::outputs(calls.iter().map(|(_, call)| *call));
+    let header = wav::Header::new(request.sample_rate, outputs)
+        .map_err(|fault| Failure::unusable(setting.drive.display(), fault))?;
+    let mut player = Player::open(&book, &store, setting)?;
+    let mut output = Output::create(&request.out, &setting.inputs())?;
     output.write_with(|file| header.write(file))?;
     let mut progress = Progress::new();
-    for (done, line) in lines.iter().enumerate() {
+    let mut totals = Totals::default();
+    for (done, (line, call)) in calls.iter().enumerate() {
         interrupt::test()?;
-        let played = player.perform(line).map_err(|refusal| {
-            let place = format!("{}:{}", request.drive.display(), line.number);
-            Failure::refused(&place, refusal)
-        })?;
+        let played = player
+            .perform(*call, |part| totals.add(&part))
+            .map_err(|refusal| Failure::refused(&line.place(&setting.drive), refusal))?;
         output.write_with(|file| wav::write_samples(file, played))?;
-        progress.show(format_args!("{} of {} calls", done + 1, lines.len()));
+        progress.show(format_args!("{} of {} calls", done + 1, calls.len()));
     }
     output.finish()?;
     drop(progress);
-    say(format_args!("{}\n", player.totals()))
+    say(format_args!("{totals}\n"))
 }
 
 /// The test hum, a block after another.

@@ -2,6 +2,8 @@
 
 use std::fmt;
 
+use crate::player::Part;
+
 /// Outputs, the fades that began, and the multiplies that all of it took.
 #[derive(Clone, Copy, Debug, Default, PartialEq, Eq)]
 pub struct Totals {
@@ -13,21 +15,44 @@ pub struct Totals {
     pub multiplies: u64,
 }
 
-/// One line; no mean where there is no output to have one.
+impl Totals {
+    /// Adds a part of a play.
+    pub fn add(&mut self, part: &Part) {
+        self.outputs += part.outputs as u64;
+        self.fades += u64::from(part.fade.is_some());
+        self.multiplies += part.multiplies;
+    }
+
+    /// What came after `earlier` totals of the same drive.
+    pub fn since(&self, earlier: &Totals) -> Totals {
+        Totals {
+            outputs: self.outputs - earlier.outputs,
+            fades: self.fades - earlier.fades,
+            multiplies: self.multiplies - earlier.multiplies,
+        }
+    }
+
+    /// Multiplies per output; none where there is no output to have a mean.
+    pub fn mean(&self) -> Option<f64> {
+        (self.outputs != 0).then(|| self.multiplies as f64 / self.outputs as f64)
+    }
+}
+
+/// One line.
 impl fmt::Display for Totals {
     fn fmt(&self, f: &mut fmt::Formatter<'_>) -> fmt::Result {
         let Totals {
             outputs,
             fades,
             multiplies,
-        } = *self;
+        } = self;
         write!(
             f,
             "{outputs} outputs, {fades} fades, {multiplies} multiplies"
         )?;
-        match outputs {
-            0 => Ok(()),
-            _ => write!(f, ", {:.2} per output", multiplies as f64 / outputs as f64),
+        match self.mean() {
+            None => Ok(()),
+            Some(mean) => write!(f, ", {mean:.2} per output"),
         }
     }
 }
