@@ -2,3 +2,4 @@
 pub mod Caps
 pub mod Words
 pub mod Scans
+pub mod Examples

@@ -11,12 +11,14 @@ use lib.ListN.{length, take, length-take}
 use lib.Seq.{take-all, take-nil, take-append-le, take-append-add}
 use borrow.Author.Tests.{ltb-true, ltb-false}
 use Rattle.player.specs.declared.Voice.{Voice}
+use Rattle.test_setting.specs.Setting.{testSetting}
+use Rattle.text.specs.Decimal.{lastDigits, decimal}
 use Rattle.drive_text.specs.declared.Scan.the-variants.{Fresh}
 use Rattle.drive_text.specs.Lines.{Parts, lineEnd, split, linesFrom, linesOf, inputLimit}
 use Rattle.drive_text.specs.Inner.{nextScan}
 use Rattle.report.specs.declared.Report.{Report}
-use Rattle.report.specs.Printed.{Printed, linesText, totalText, outputsOf, multipliesOf, sum}
-use Rattle.report.specs.Report.{linesReport, report}
+use Rattle.report.specs.Printed.{Printed, totalWord, linesText, totalText, outputsOf, multipliesOf, sum}
+use Rattle.report.specs.Report.{linesReport, report, driveReport}
 use Rattle.report.specs.Inner.{Step, pieceLimit, freshDrive, freshReport, endLine, readByte, readBytes, readPiece, endText}
 use Rattle.report.specs.Whole.{joined, Short, readPieces, allText, PiecesReport}
 use Rattle.report.proofs.Bytes.{read-parts}
@@ -118,3 +120,13 @@ unfolding freshReport report
 pieces-report b store v pieces short =
     pieces-onwards b store (freshReport v) pieces short
     ∙ bytes-report b store v (freshReport v) (take inputLimit (joined pieces)) refl refl (take-few inputLimit (joined pieces))
+
+-- on the hum, book and opening of (b)
+pub drive-report : (pieces : List (List ℕ)) → Short pieces
+    → (let s = testSetting in allText (s .book) (s .store) (freshReport (s .voice)) pieces) ≡ driveReport (joined pieces)
+drive-report pieces short = let s = testSetting in pieces-report (s .book) (s .store) (s .voice) pieces short
+
+-- an empty input: "total 0 0"
+pub empty-report : (b store : List ℤ) (v : Voice) → report b store v [] ≡ totalWord ++ (32 ∷ 48 ∷ 32 ∷ 48 ∷ 10 ∷ [])
+unfolding report linesOf linesFrom split linesReport linesText totalText sum decimal lastDigits
+empty-report b store v = refl

@@ -2,6 +2,8 @@
 
 use std::process::Output;
 
+use renderer::programs::drive_report;
+use renderer::Edition;
 use tone::{Refusal, Voice};
 
 use crate::bench::{
@@ -64,6 +66,47 @@ fn lines_are_the_library_s_answers() {
     }
     text += &format!("total {} {}\n", sums[0], sums[1]);
     reported(&stage, &stage.report("1", &drive), &text, &[]);
+}
+
+/// A drive in the language of request (f), where a rate is a whole number of 256ths,
+/// and the same for the command, where it is a decimal.
+fn two_languages() -> (String, String) {
+    let (mut whole, mut decimal) = (String::new(), String::new());
+    for k in 0..600u64 {
+        let a = k * k * 7919 % 2100;
+        let rate = a as f64 / 256.0;
+        let (count, position) = (k * 97 % 700, (k * k) << (k % 48));
+        let (first, second) = match k % 5 {
+            0 => (format!("jump {a}"), format!("jump {rate}")),
+            1 => (
+                format!("glide {a} {count}"),
+                format!("glide {rate} {count}"),
+            ),
+            2 => (format!("seek {position}"), format!("seek {position}")),
+            3 if k % 10 == 3 => ("stop".to_owned(), "stop".to_owned()),
+            _ => (format!("play {count}"), format!("play {count}")),
+        };
+        whole += &format!("{first}\n");
+        decimal += &format!("{second}\n");
+    }
+    (whole, decimal)
+}
+
+/// On the test drive's hum, book and opening the text is that of request (f).
+#[test]
+fn the_text_of_the_drive_report() {
+    let mut book = K;
+    book[4] = 16;
+    let mut samples = vec![0; 6400];
+    tone::test_hum(0, &mut samples);
+    let stage = Stage::new(&book, &samples, 2);
+    let (whole, decimal) = two_languages();
+    let expected = drive_report(Edition::F, whole.as_bytes());
+    let output = stage.report("1", &decimal);
+    assert_eq!(String::from_utf8(output.stdout).unwrap(), expected);
+    for seen in ["refused\n", " 0\n", " 1\n", " 2\n"] {
+        assert!(expected.contains(seen), "{seen:?}");
+    }
 }
 
 #[test]

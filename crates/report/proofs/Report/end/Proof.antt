@@ -1,11 +1,12 @@
 -- `report::Report::end` meets its contract. Assumes nothing.
 use borrow.Author.Needs.{needs}
-use mathlib.Core.Path.{sym, ap, _∙_}
+use mathlib.Core.Path.{_≡_, sym, ap, _∙_}
 use mathlib.Core.List.{_++_}
 use Prim.Native.Nat.{_≤_}
 use native.Mathlib.Omega.{arith}
-use lib.ListN.{length}
+use lib.ListN.{length, take}
 use lib.Seq.{length-take-le}
+use Rattle.report.specs.declared.Piece.{Piece}
 use Rattle.report.specs.Printed.{totalText}
 use Rattle.report.specs.Inner.{endText}
 use Rattle.report.proofs.Report.end.Statement.{statement}
