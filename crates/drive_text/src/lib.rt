@@ -41,7 +41,8 @@ const SEEK: u64 = 0x17365656b;
 
 const PLAY: u64 = 0x1706c6179;
 
-fn least(a: u64, b: u64) -> u64
+// The smaller of two numbers.
+pub fn least(a: u64, b: u64) -> u64
     ensures { λ r. ⌜ r ≡ min a b ⌝ }
 {
     if a < b { a } else { b }

@@ -14,6 +14,7 @@ use crate::lines::played_line;
 use crate::lines::refused_line;
 use control::Order;
 use drive_text::Line as Asked;
+use drive_text::least;
 use player::Answer;
 use player::PlayAnswer;
 use player::Voice;
@@ -23,12 +24,6 @@ const RATE_CAP: u64 = 8192;
 
 // Past every count of a glide.
 const COUNT_CAP: u64 = 65537;
-
-fn least(a: u64, b: u64) -> u64
-    ensures { λ r. ⌜ r ≡ min a b ⌝ }
-{
-    if a < b { a } else { b }
-}
 
 // a/256: a whole number of 256ths, which an f32 holds exactly up to where no call takes it.
 fn rate(a: u64) -> f32

@@ -2,7 +2,7 @@
 
 ghost use mathlib.Core.Path.{_≡_};
 ghost use mathlib.Core.List.{_++_};
-ghost use Prim.Native.Nat.{_+_, _*_, _≤_, min};
+ghost use Prim.Native.Nat.{_+_, _*_, _≤_};
 ghost use lib.ListN.{length, take};
 ghost use Rattle.io.specs.Counts.{Counts};
 ghost use Rattle.report.specs.Inner.{stepOf, behind, freshReport, endLine, readByte, readBytes, readPiece, lastLine, endText};
@@ -11,13 +11,8 @@ use crate::Piece;
 use crate::Report;
 use crate::lines::total_line;
 use drive_text::Scan;
+use drive_text::least;
 use player::Voice;
-
-fn least(a: usize, b: usize) -> usize
-    ensures { λ r. ⌜ r ≡ min a b ⌝ }
-{
-    if a < b { a } else { b }
-}
 
 impl Report {
     // Before the first byte of the input.
@@ -103,15 +98,17 @@ impl Report {
             ⌝ }
         ensures { λ r. ⌜ Counts (r .count) (now (text .exit)) ⌝ }
     {
-        let left = self.left as usize;
-        let n = least(least(piece.len(), 4096), left);
+        let left = self.left as u64;
+        let count = least(least(piece.len() as u64, 4096), left);
+        let after = (left - count) as u32;
         let scan = self.scan;
         let drive = self.drive;
         let report = Report {
-            left: (left - n) as u32,
+            left: after,
             scan,
             drive,
         };
+        let n = count as usize;
         report.read_bytes(&piece[..n], book, store, text)
     }
 

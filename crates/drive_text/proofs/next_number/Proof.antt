@@ -4,7 +4,7 @@ use mathlib.Core.Path.{_≡_, ap, _∙_}
 use native.Mathlib.Omega.{arith}
 use borrow.Author.Tests.{leb-true}
 use Rattle.arith.proofs.Tests.{&&-left}
-use Prim.Native.Nat.{_≤_, _+_, _-_, _*_, min}
+use Prim.Native.Nat.{ℕ, _≤_, _+_, _-_, _*_, min}
 use lib.Dec.{leb}
 use Rattle.drive_text.specs.Numbers.{isDigit}
 use Rattle.drive_text.specs.Inner.{numberCap, nextNumber}
@@ -35,8 +35,10 @@ returns : tie.Need-returns
 unfolding nextNumber
 returns c =
     let a = c .before .before .args in
-    let x : min (a .n) numberCap * 10 + (a .byte - 48) ≡ 10 * min (a .n) numberCap + (a .byte - 48) = omega arith in
-    c .least2 .ensures ∙ ap (λ m. min (m * 10 + (a .byte - 48)) numberCap) (c .before .least .ensures) ∙ ap (λ m. min m numberCap) x ∙ cap-grown 10 (a .n) (a .byte - 48) numberCap (omega arith)
+    let d : ℕ = a .byte - 48 in
+    let sum : c .least2 .result ≡ min (c .before .least .result * 10 + d) numberCap = c .least2 .ensures in
+    let x : min (a .n) numberCap * 10 + d ≡ 10 * min (a .n) numberCap + d = omega arith in
+    sum ∙ ap (λ m. min (m * 10 + d) numberCap) (c .before .least .ensures) ∙ ap (λ m. min m numberCap) x ∙ cap-grown 10 (a .n) d numberCap (omega arith)
 
 pub next-number-spec : {M : Type 1} → statement M
 next-number-spec =

@@ -61,10 +61,11 @@ returns-2 c =
     let e : afterCount (a .self .voice) (a .self .plays) (a .answer) (a .count) ≡ reported (a .answer .voice) (p ∷ []) = simp (eq-eqb (a .answer .number) 0 n) in
     let before : List ℕ = take (a .at) (a .text .now) in
     let text : take (line .played-line .result) (line .played-line .last .0) ≡ before ++ lineText p = line .played-line .ensures .0 in
-    rw e
-    (simp (c .before .before .kept-count .ensures, c .before .kept-sum .ensures, c .kept-sum2 .ensures),
-    text ∙ ap (λ t. before ++ t) (sym (append-nil (lineText p))),
-    line .played-line .ensures .1)
+    rw e (
+      simp (c .before .before .kept-count .ensures, c .before .kept-sum .ensures, c .kept-sum2 .ensures),
+      text ∙ ap (λ t. before ++ t) (sym (append-nil (lineText p))),
+      line .played-line .ensures .1,
+    )
 
 pub after-play-spec : {M : Type 1} → statement M
 after-play-spec =

@@ -36,11 +36,11 @@ least-requires c κs = search needs
 least-requires-2 : tie.Need-least-requires-2
 least-requires-2 c κs = search needs
 
-sub-t11 : tie.Need-sub-t11
-sub-t11 c = search needs
+sub-after : tie.Need-sub-after
+sub-after c = search needs
 
-cast-t13 : tie.Need-cast-t13
-cast-t13 c = search needs
+cast-after : tie.Need-cast-after
+cast-after c = search needs
 
 slice-aggregate-read-bytes : tie.Need-slice-aggregate-read-bytes
 slice-aggregate-read-bytes c = let n = c .before .before in sym (length-take-le (n .least2 .result) (s n .args .piece .now) (in-piece n))
@@ -64,8 +64,8 @@ read-spec =
     cast-left
     least-requires
     least-requires-2
-    sub-t11
-    cast-t13
+    sub-after
+    cast-after
     slice-aggregate-read-bytes
     read-bytes-requires
     returns)
