@@ -6,13 +6,13 @@ use Prim.Native.Nat.{ℕ, zero, suc, _≤_}
 use native.Mathlib.Omega.{arith}
 use lib.Dec.{eqb}
 use lib.IntN.{ℤ, pos}
-use lib.ListN.{length, take, replicate, length-replicate}
+use lib.ListN.{length, take, replicate}
 use Rattle.player.specs.declared.Voice.{Voice}
 use Rattle.player.specs.Calls.{playAnswer}
 use Rattle.player.specs.Outputs.{outputs}
 use Rattle.player.proofs.Blocks.{length-outputs}
 use Rattle.report.specs.Report.{afterPlay}
-use Rattle.report.specs.Inner.{countAnswer, afterCount}
+use Rattle.report.specs.Inner.{countAnswer, withWords}
 
 pub take-zeros : (n m : ℕ) → n ≤ m → take n (replicate m (pos 0)) ≡ replicate n (pos 0)
 take-zeros zero m h = refl
@@ -29,7 +29,7 @@ module _ (b store : List ℤ) (v : Voice) where
       go true = length-outputs b store v (length words)
       go false = refl
 
-  -- a play by its answer alone
-  pub by-count : (plays count : ℕ) → afterCount v plays (countAnswer b store v count) count ≡ afterPlay v plays (playAnswer b store v (replicate count (pos 0)))
-  unfolding afterCount countAnswer afterPlay
-  by-count plays count = rw (words-length (replicate count (pos 0)) ∙ length-replicate count (pos 0)) refl
+  -- a play by its answer and a count
+  pub by-count : (plays count : ℕ) → afterPlay v plays (withWords (countAnswer b store v count) count) ≡ afterPlay v plays (playAnswer b store v (replicate count (pos 0)))
+  unfolding countAnswer afterPlay
+  by-count plays count = rw (words-length (replicate count (pos 0))) refl

@@ -9,7 +9,7 @@ use lib.IntN.{ℤ, pos}
 use lib.ListN.{length, take, replicate}
 use Rattle.player.specs.declared.Voice.{Voice}
 use Rattle.player.specs.declared.PlayAnswer.{PlayAnswer}
-use Rattle.player.specs.Calls.{playAnswer}
+use Rattle.player.specs.Calls.{Played, playAnswer}
 use Rattle.drive_text.specs.declared.Line.{Line as Asked}
 use Rattle.drive_text.specs.declared.Line.the-variants.{Jump, Glide, Seek, Play, Other}
 use Rattle.drive_text.specs.declared.Scan.the-variants.{Fresh}
@@ -21,7 +21,7 @@ use Rattle.report.specs.declared.Line.{Line}
 use Rattle.report.specs.declared.Report.{Report}
 use Rattle.report.specs.declared.Piece.{Piece}
 use Rattle.report.specs.Printed.{Printed, refused, played, linesText, totalText}
-use Rattle.report.specs.Report.{Reported, reported, passedOver, lineReport}
+use Rattle.report.specs.Report.{Reported, lineReport}
 
 -- the largest number of 32 bits, and of 64
 abbrev pub largest32 : ℕ
@@ -62,12 +62,9 @@ countAnswer b store v count =
     let p = playAnswer b store v (replicate count (pos 0)) in
     record { number = p .number; voice = p .voice; multiplies = p .multiplies }
 
--- a play of so many outputs that was answered
-unfoldable pub afterCount : Voice → ℕ → PlayAnswer → ℕ → Reported
-afterCount v plays a count =
-    cond (eqb (a .number) 0)
-    (reported (a .voice) (played (plays + 1) count (a .multiplies) (a .voice .control .fade .from) ∷ []))
-    (passedOver v)
+-- such an answer with as many words; only their count is looked at
+abbrev pub withWords : PlayAnswer → ℕ → Played
+withWords a count = record { number = a .number; voice = a .voice; multiplies = a .multiplies; words = replicate count (pos 0) }
 
 -- a line that the language has: n is up to 4096
 abbrev pub Limited : Asked → Type 0

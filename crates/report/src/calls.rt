@@ -6,8 +6,8 @@ ghost use lib.ListN.{length};
 ghost use Rattle.control.specs.declared.Order.the-variants.{Glide as GlideTo};
 ghost use Rattle.player.specs.Calls.{orderAnswer, seekAnswer};
 ghost use Rattle.drive_text.specs.declared.Line.the-variants.{Play};
-ghost use Rattle.report.specs.Report.{rate as Report·rate, passedOver, afterAnswer};
-ghost use Rattle.report.specs.Inner.{largest32, largest64, freshDrive, Tells, Limited, countAnswer, afterCount, driveLine};
+ghost use Rattle.report.specs.Report.{rate as Report·rate, passedOver, afterAnswer, afterPlay};
+ghost use Rattle.report.specs.Inner.{largest32, largest64, freshDrive, Tells, Limited, countAnswer, withWords, driveLine};
 use crate::Drive;
 use crate::Line;
 use crate::lines::played_line;
@@ -113,7 +113,7 @@ impl Drive {
     // After a play of `count` outputs.
     fn after_play(self, answer: PlayAnswer, count: usize, text: &mut [u8], at: usize) -> Line
         requires { ⌜ at + 96 ≤ length (now text) ⌝ }
-        ensures { λ r. ⌜ Tells self (afterCount (self .voice) (self .plays) answer count) at (now (text .entry)) r (now (text .exit)) ⌝ }
+        ensures { λ r. ⌜ Tells self (afterPlay (self .voice) (self .plays) (withWords answer count)) at (now (text .entry)) r (now (text .exit)) ⌝ }
     {
         if answer.number != 0 {
             return self.pass_over(text, at);

@@ -3,12 +3,13 @@ use borrow.Author.Needs.{needs}
 use mathlib.Core.Path.{_≡_, sym, ap, _∙_}
 use mathlib.Core.List.{List, [], _∷_, _++_, append-nil}
 use Prim.Native.Nat.{ℕ, _+_}
-use lib.ListN.{take}
+use lib.IntN.{pos}
+use lib.ListN.{take, length-replicate}
 use borrow.Author.Tests.{eq-eqb, ne-eqb}
 use native.Mathlib.Omega.{arith}
 use Rattle.report.specs.Printed.{played, lineText, linesText}
-use Rattle.report.specs.Report.{reported, passedOver}
-use Rattle.report.specs.Inner.{counted, tallied, afterCount}
+use Rattle.report.specs.Report.{reported, passedOver, afterPlay}
+use Rattle.report.specs.Inner.{counted, tallied, withWords}
 use Rattle.report.proofs.Drive.after_play.Statement.{statement}
 use Rattle.report.proofs.Drive.after_play.Tie as tie
 
@@ -19,11 +20,11 @@ same-length : tie.Need-same-length
 same-length c = search needs
 
 returns : tie.Need-returns
-unfolding afterCount
+unfolding afterPlay
 returns c =
     let s = c .before .before .before .before .before .before .before in
     let a = s .args in
-    let e : afterCount (a .self .voice) (a .self .plays) (a .answer) (a .count) ≡ passedOver (a .self .voice) = simp (ne-eqb (a .answer .number) 0 (λ (z : a .answer .number ≡ 0). omega (arith, c .before .before .before .before .if1 .taken))) in
+    let e : afterPlay (a .self .voice) (a .self .plays) (withWords (a .answer) (a .count)) ≡ passedOver (a .self .voice) = simp (ne-eqb (a .answer .number) 0 (λ (z : a .answer .number ≡ 0). omega (arith, c .before .before .before .before .if1 .taken))) in
     rw e (c .before .before .pass-over .ensures)
 
 cast-number : tie.Need-cast-number
@@ -51,14 +52,14 @@ same-length-2 : tie.Need-same-length-2
 same-length-2 c = search needs
 
 returns-2 : tie.Need-returns-2
-unfolding afterCount tallied counted linesText
+unfolding afterPlay tallied counted linesText
 returns-2 c =
     let line = c .before .before .before .before .before in
     let s = line .before .before .before .before .before .before .before .before .before in
     let a = s .args in
     let n : a .answer .number ≡ 0 = omega (arith, line .before .before .before .before .before .before .if1 .left) in
     let p = played (a .self .plays + 1) (a .count) (a .answer .multiplies) (a .answer .voice .control .fade .from) in
-    let e : afterCount (a .self .voice) (a .self .plays) (a .answer) (a .count) ≡ reported (a .answer .voice) (p ∷ []) = simp (eq-eqb (a .answer .number) 0 n) in
+    let e : afterPlay (a .self .voice) (a .self .plays) (withWords (a .answer) (a .count)) ≡ reported (a .answer .voice) (p ∷ []) = rw (length-replicate (a .count) (pos 0)) (simp (eq-eqb (a .answer .number) 0 n)) in
     let before : List ℕ = take (a .at) (a .text .now) in
     let text : take (line .played-line .result) (line .played-line .last .0) ≡ before ++ lineText p = line .played-line .ensures .0 in
     rw e (
