@@ -7,19 +7,20 @@ use native.Mathlib.Omega.{arith}
 use lib.Dec.{eqb}
 use lib.IntN.{ℤ}
 use lib.ListN.{length}
+use Rattle.player.specs.declared.Voice.{Voice}
 use Rattle.drive_text.specs.declared.Line.{Line as Asked}
 use Rattle.drive_text.specs.declared.Line.the-variants.{Jump, Glide, Seek, Play, Other}
 use Rattle.drive_text.specs.declared.Scan.{Scan}
 use Rattle.drive_text.specs.declared.Scan.the-variants.{Fresh}
-use Rattle.drive_text.specs.Lines.{lineEnd, split, linesFrom, linesOf}
+use Rattle.drive_text.specs.Lines.{lineEnd, split, linesFrom}
 use Rattle.drive_text.specs.Calls.{lineOf}
 use Rattle.drive_text.specs.Inner.{nextScan, isBegun, scannedLine, scanFrom, kept}
 use Rattle.drive_text.proofs.Scans.{scanned-line, begun-next}
 use Rattle.report.specs.declared.Drive.{Drive}
 use Rattle.report.specs.declared.Report.{Report}
 use Rattle.report.specs.Printed.{Printed, lineText, linesText, totalText, playsOf, outputsOf, multipliesOf, sum}
-use Rattle.report.specs.Report.{Reported, lineReport, linesReport}
-use Rattle.report.specs.Inner.{largest32, largest64, Step, behind, Limited, tallied, driveLine, endLine, readByte, readBytes, lastLine, endText}
+use Rattle.report.specs.Report.{lineReport, linesReport}
+use Rattle.report.specs.Inner.{largest32, largest64, Step, Limited, tallied, driveLine, endLine, readByte, readBytes, lastLine, endText}
 use Rattle.report.proofs.HandedOut.{sum-+}
 use Rattle.report.proofs.Asked.{scan-limited}
 use Rattle.report.proofs.Tallies.{mostOfLine, Adds, line-adds, line-kept, driveOf, counted-sums}
@@ -54,6 +55,10 @@ kept-limited (Glide a c) h = tt
 kept-limited (Seek p) h = tt
 kept-limited (Play n) h = h
 kept-limited Other h = tt
+
+-- a line's play is of at most 4096 outputs
+line-limited : (line : List ℕ) → Limited (lineOf line)
+line-limited line = kept-limited (lineOf line) (subst Limited (scanned-line line) (scan-limited (scanFrom Fresh line)))
 
 -- a line with a byte is begun
 begun-all : (s : Scan) (x : ℕ) (xs : List ℕ) → isBegun (scanFrom s (x ∷ xs)) ≡ true
@@ -127,8 +132,7 @@ module _ (b store : List ℤ) where
   unfolding driveLine tallied
   whole-line d n line room =
       let l = lineReport b store (d .voice) (d .plays) (lineOf line) in
-      let limited : Limited (lineOf line) = kept-limited (lineOf line) (subst Limited (scanned-line line) (scan-limited (scanFrom Fresh line))) in
-      let a : Adds (l .printed) = line-adds b store (d .voice) (d .plays) (lineOf line) limited in
+      let a : Adds (l .printed) = line-adds b store (d .voice) (d .plays) (lineOf line) (line-limited line) in
       let t = counted-sums d (l .printed) (omega (arith, room .0, a .plays)) (omega (arith, room .1, a .outputs)) (omega (arith, room .2, a .multiplies)) in (
         ap (lineReport b store (d .voice) (d .plays)) (scanned-line line) ∙ line-kept b store (d .voice) (d .plays) (lineOf line),
         ap (λ e. driveOf (l .voice) (e .plays) (e .outputs) (e .multiplies)) t,
@@ -166,3 +170,14 @@ module _ (b store : List ℤ) where
   lines-printed d zero first (next ∷ others) h room = absurd (omega (arith, h))
   lines-printed d (suc n) first (next ∷ others) h room =
       line-then d n first (linesFrom next others) (λ e. from Fresh e next others) room (λ e left. lines-printed e n next others (omega (arith, h)) left)
+
+  -- what so many lines add at most
+  pub lines-fit : (v : Voice) (plays : ℕ) (lines : List (List ℕ)) → let ps = linesReport b store v plays lines .printed in (sum outputsOf ps ≤ length lines * 4096) × (sum multipliesOf ps ≤ length lines * mostOfLine)
+  unfolding linesReport sum
+  lines-fit v plays [] = (omega arith, omega arith)
+  lines-fit v plays (line ∷ lines) =
+      let r = lineReport b store v plays (lineOf line) in
+      let s = linesReport b store (r .voice) (plays + sum playsOf (r .printed)) lines in
+      let a = line-adds b store v plays (lineOf line) (line-limited line) in
+      let rest = lines-fit (r .voice) (plays + sum playsOf (r .printed)) lines in
+      (omega (arith, sum-+ outputsOf (r .printed) (s .printed), a .outputs, rest .0), omega (arith, sum-+ multipliesOf (r .printed) (s .printed), a .multiplies, rest .1))

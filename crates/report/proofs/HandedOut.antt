@@ -1,6 +1,6 @@
 -- The outputs that a report prints are the samples that its calls hand out. Assumes nothing.
 use mathlib.Core.Path.{_≡_, refl, sym, ap, ap₂, subst, _∙_}
-use mathlib.Core.Bool.{Bool, true, false, cond}
+use mathlib.Core.Bool.{Bool, true, false}
 use mathlib.Core.List.{List, [], _∷_, _++_, append-assoc, append-nil}
 use Prim.Native.Nat.{ℕ, _+_}
 use native.Mathlib.Nat.{add-zero}
@@ -12,14 +12,14 @@ use Rattle.control.specs.declared.Order.{Order}
 use Rattle.control.specs.declared.Order.the-variants.{Jump as JumpTo, Glide as GlideTo}
 use Rattle.player.specs.declared.Voice.{Voice}
 use Rattle.player.specs.declared.Answer.{Answer}
-use Rattle.player.specs.Calls.{Played, orderAnswer, seekAnswer, playAnswer}
+use Rattle.player.specs.Calls.{orderAnswer, seekAnswer, playAnswer}
 use Rattle.player.specs.Outputs.{outputs}
 use Rattle.drive.specs.Lists.{Call, play, callVoice, callSamples, handedOut, endVoice}
 use Rattle.drive_text.specs.declared.Line.{Line}
 use Rattle.drive_text.specs.declared.Line.the-variants.{Jump, Glide, Seek, Play, Other}
 use Rattle.drive_text.specs.Calls.{lineOf}
 use Rattle.report.specs.Printed.{Printed, playsOf, outputsOf, sum}
-use Rattle.report.specs.Report.{rate, Reported, reported, passedOver, afterAnswer, afterPlay, lineReport, linesReport}
+use Rattle.report.specs.Report.{rate, Reported, reported, afterAnswer, afterPlay, lineReport, linesReport}
 use Rattle.report.specs.Whole.{callsOf, allCalls, OutputsHandedOut}
 
 pub sum-+ : (of : Printed → ℕ) (ps qs : List Printed) → sum of (ps ++ qs) ≡ sum of ps + sum of qs

@@ -1,7 +1,6 @@
 -- Numbers past a call's limits are refused alike, whatever they are: a call may be made with a number that is kept up to a cap. Assumes nothing.
 use mathlib.Core.Path.{_≡_, refl, sym, ap, _∙_}
 use mathlib.Core.Bool.{Bool, true, false, cond, not, _&&_}
-use mathlib.Core.List.{List}
 use Prim.Native.Nat.{ℕ, zero, suc, _+_, _*_, _^_, _≤_, _<_, min}
 use native.Mathlib.Nat.{min-eq-left, min-eq-right, mul-le-mul-right}
 use native.Mathlib.Omega.{arith}
@@ -9,7 +8,7 @@ use lib.Dec.{T, eqb, leb, ltb}
 use lib.Ieee.{Float, nan, inf, fin, binary32, up, down, le, round}
 use lib.Ieee.Order.{round-mono}
 use lib.Ieee.Positive.{above-of-le, le→cross}
-use lib.IntN.{ℤ, pos}
+use lib.IntN.{pos}
 use lib.Pow.{pow-mono}
 use borrow.Author.Tests.{ltb-true, ltb-false, le-ltb, lt-ltb, ne-eqb}
 use Rattle.book.specs.Number.{refuse, _otherwise_}

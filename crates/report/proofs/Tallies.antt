@@ -1,8 +1,8 @@
 -- How much a line can add to the counts, and that they are plain sums where they have room. Assumes nothing.
-use mathlib.Core.Path.{_≡_, refl, sym, ap, _∙_}
+use mathlib.Core.Path.{_≡_, refl, ap, _∙_}
 use mathlib.Core.Bool.{Bool, true, false, cond}
 use mathlib.Core.List.{List, [], _∷_}
-use Prim.Native.Nat.{ℕ, _+_, _*_, _≤_, min}
+use Prim.Native.Nat.{ℕ, _+_, _*_, _≤_}
 use native.Mathlib.Nat.{min-eq-left, mul-le-mul}
 use native.Mathlib.Omega.{arith}
 use lib.Dec.{eqb}
@@ -11,11 +11,10 @@ use lib.ListN.{length, replicate, length-replicate}
 use borrow.Author.Tests.{eqb-true}
 use Rattle.book.specs.Book.{sizesOf}
 use Rattle.book.proofs.Accepted.{accepted, sizes-bounded}
-use Rattle.multiplies.specs.Multiplies.{mostMultiplies}
 use Rattle.player.specs.declared.Voice.{Voice}
 use Rattle.player.specs.declared.Answer.{Answer}
 use Rattle.player.specs.Calls.{Played, orderAnswer, seekAnswer, playAnswer}
-use Rattle.player.proofs.Accepted.{numberOf, play-accepted}
+use Rattle.player.proofs.Accepted.{play-accepted}
 use Rattle.player.proofs.Counted.{play-bounded}
 use Rattle.control.specs.declared.Order.the-variants.{Jump as JumpTo, Glide as GlideTo}
 use Rattle.drive_text.specs.declared.Line.{Line}
@@ -24,7 +23,7 @@ use Rattle.drive_text.specs.Inner.{numberCap, kept}
 use Rattle.report.specs.declared.Drive.{Drive}
 use Rattle.report.specs.Printed.{Printed, refused, played, playsOf, outputsOf, multipliesOf, sum}
 use Rattle.report.specs.Report.{rate, Reported, reported, passedOver, afterAnswer, afterPlay, lineReport}
-use Rattle.report.specs.Inner.{largest32, largest64, Limited, counted, tallied, driveLine}
+use Rattle.report.specs.Inner.{largest32, largest64, Limited, counted}
 use Rattle.report.proofs.Plays.{words-length}
 use Rattle.report.proofs.Limits.{jump-kept, glide-kept, seek-kept}
 

@@ -2,7 +2,7 @@
 use mathlib.Core.Path.{_≡_, refl, sym, ap, ap₂, _∙_}
 use mathlib.Core.Bool.{Bool, true, false, cond}
 use mathlib.Core.List.{List, [], _∷_, _++_, append-assoc, append-nil}
-use Prim.Native.Nat.{ℕ, zero, suc, _+_, _-_, _≤_, _<_, min}
+use Prim.Native.Nat.{ℕ, suc, _+_, _-_, _^_, _≤_, _<_, min}
 use native.Mathlib.Nat.{min-eq-left, min-eq-right, min-le-left}
 use native.Mathlib.Omega.{arith}
 use lib.Dec.{eqb, ltb}
@@ -14,7 +14,7 @@ use Rattle.player.specs.declared.Voice.{Voice}
 use Rattle.test_setting.specs.Setting.{testSetting}
 use Rattle.text.specs.Decimal.{lastDigits, decimal}
 use Rattle.drive_text.specs.declared.Scan.the-variants.{Fresh}
-use Rattle.drive_text.specs.Lines.{Parts, lineEnd, split, linesFrom, linesOf, inputLimit}
+use Rattle.drive_text.specs.Lines.{Parts, lineEnd, split, linesFrom, linesOf, inputLimit, inputLines}
 use Rattle.drive_text.specs.Inner.{nextScan}
 use Rattle.report.specs.declared.Report.{Report}
 use Rattle.report.specs.Printed.{Printed, totalWord, linesText, totalText, outputsOf, multipliesOf, sum}
@@ -22,7 +22,7 @@ use Rattle.report.specs.Report.{linesReport, report, driveReport}
 use Rattle.report.specs.Inner.{Step, pieceLimit, freshDrive, freshReport, endLine, readByte, readBytes, readPiece, endText}
 use Rattle.report.specs.Whole.{joined, Short, readPieces, allText, PiecesReport}
 use Rattle.report.proofs.Bytes.{read-parts}
-use Rattle.report.proofs.ByLines.{onwards, from, by-lines, lines-printed}
+use Rattle.report.proofs.ByLines.{onwards, from, by-lines, lines-printed, lines-fit}
 
 -- ---- a limit over two parts
 
@@ -100,19 +100,22 @@ lines-count first (next ∷ others) = omega (arith, lines-count next others)
 take-few : (n : ℕ) (xs : List ℕ) → length (take n xs) ≤ n
 take-few n xs = omega (arith, length-take n xs, min-le-left n (length xs))
 
+bytes-count : (bytes : List ℕ) → length bytes ≤ 1048576 → length (linesOf bytes) ≤ 1048577
+unfolding linesOf
+bytes-count bytes few = let p = split lineEnd bytes in omega (arith, lines-count (p .first) (p .others), split-count bytes, few)
+
 -- bytes with room for their lines
 bytes-report : (b store : List ℤ) (v : Voice) (r : Report) (bytes : List ℕ) → r .scan ≡ Fresh → r .drive ≡ freshDrive v → length bytes ≤ 1048576
     → onwards b store r bytes ≡ (let ps = linesReport b store v 0 (linesOf bytes) .printed in linesText ps ++ totalText (sum outputsOf ps) (sum multipliesOf ps))
 unfolding freshDrive linesOf
 bytes-report b store v r bytes fresh start few =
     let p = split lineEnd bytes in
-    let count : length (linesFrom (p .first) (p .others)) ≤ 1048577 = omega (arith, lines-count (p .first) (p .others), split-count bytes, few) in
     let ps : List Printed = linesReport b store v 0 (linesOf bytes) .printed in
     let o : 0 + sum outputsOf ps ≡ sum outputsOf ps = omega arith in
     let m : 0 + sum multipliesOf ps ≡ sum multipliesOf ps = omega arith in
     by-lines b store r bytes
     ∙ ap₂ (λ s d. from b store s d (p .first) (p .others)) fresh start
-    ∙ lines-printed b store (freshDrive v) 1048577 (p .first) (p .others) count (omega arith, omega arith, omega arith)
+    ∙ lines-printed b store (freshDrive v) 1048577 (p .first) (p .others) (bytes-count bytes few) (omega arith, omega arith, omega arith)
     ∙ ap₂ (λ i j. linesText ps ++ totalText i j) o m
 
 pub pieces-report : PiecesReport
@@ -120,6 +123,13 @@ unfolding freshReport report
 pieces-report b store v pieces short =
     pieces-onwards b store (freshReport v) pieces short
     ∙ bytes-report b store v (freshReport v) (take inputLimit (joined pieces)) refl refl (take-few inputLimit (joined pieces))
+
+-- no total of any input reaches 2^64
+pub totals-fit : (b store : List ℤ) (v : Voice) (input : List ℕ) → let ps = linesReport b store v 0 (inputLines input) .printed in (sum outputsOf ps < 2 ^ 64) × (sum multipliesOf ps < 2 ^ 64)
+totals-fit b store v input = few (inputLines input) (bytes-count (take inputLimit input) (take-few inputLimit input))
+  where
+    few : (lines : List (List ℕ)) → length lines ≤ 1048577 → let ps = linesReport b store v 0 lines .printed in (sum outputsOf ps < 2 ^ 64) × (sum multipliesOf ps < 2 ^ 64)
+    few lines h = let f = lines-fit b store v 0 lines in (omega (arith, f .0), omega (arith, f .1))
 
 -- on the hum, book and opening of (b)
 pub drive-report : (pieces : List (List ℕ)) → Short pieces

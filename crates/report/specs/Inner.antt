@@ -1,6 +1,6 @@
 -- Definitions that only inner functions' contracts cite: no rule of document 02, but a step of the code that computes one. Bytes are read one
 -- after another; totals are kept in 64 bits, and the count of plays in 32. `Totals` (proofs) says that no input reaches these.
-use mathlib.Core.Bool.{Bool, true, cond}
+use mathlib.Core.Bool.{cond}
 use mathlib.Core.List.{List, [], _∷_, _++_}
 use mathlib.Core.Path.{_≡_}
 use Prim.Native.Nat.{ℕ, _+_, _-_, _^_, _≤_, min}

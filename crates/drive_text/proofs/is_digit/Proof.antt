@@ -1,5 +1,4 @@
 -- `drive_text::is_digit` meets its contract. Assumes nothing.
-use mathlib.Core.Path.{sym}
 use borrow.Author.Tests.{le-leb, lt-leb}
 use native.Mathlib.Omega.{arith}
 use Rattle.drive_text.specs.Numbers.{isDigit}

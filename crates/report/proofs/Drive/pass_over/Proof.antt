@@ -1,9 +1,7 @@
 -- `report::Drive::pass_over` meets its contract. Assumes nothing.
 use borrow.Author.Needs.{needs}
-use mathlib.Core.Path.{refl, ap, _∙_}
-use mathlib.Core.List.{_++_, append-nil}
-use lib.ListN.{take}
-use Rattle.report.specs.Printed.{refused, lineText, linesText}
+use mathlib.Core.Path.{refl}
+use Rattle.report.specs.Printed.{lineText, linesText}
 use Rattle.report.specs.Inner.{counted, tallied}
 use Rattle.report.proofs.Drive.pass_over.Statement.{statement}
 use Rattle.report.proofs.Drive.pass_over.Tie as tie

@@ -1,8 +1,8 @@
 -- `report::Report::end` meets its contract. Assumes nothing.
 use borrow.Author.Needs.{needs}
 use mathlib.Core.Path.{_≡_, sym, ap, _∙_}
-use mathlib.Core.List.{_++_}
-use Prim.Native.Nat.{_≤_}
+use mathlib.Core.List.{List, _++_}
+use Prim.Native.Nat.{ℕ, _≤_}
 use native.Mathlib.Omega.{arith}
 use lib.ListN.{length, take}
 use lib.Seq.{length-take-le}
@@ -22,8 +22,11 @@ returns : tie.Need-returns
 unfolding endText
 returns c =
     let l = c .before .before .before .before in
+    let last : Piece = l .last-line .result in
+    let before : List ℕ = take (last .count) (l .last-line .last .1 .1 .1 .0) in
+    let text : take (c .total-line .result) (c .total-line .last .0) ≡ before ++ totalText (last .report .drive .outputs) (last .report .drive .multiplies) = c .total-line .ensures .0 in
     let count : c .total-line .result ≤ length (c .total-line .last .0) = omega (arith, c .total-line .ensures .1, l .last-line .ensures .1, c .total-line .kept .0, l .last-line .kept .1 .1 .1 .0) in (
-      c .total-line .ensures .0 ∙ ap (λ s. s .text ++ totalText (s .report .drive .outputs) (s .report .drive .multiplies)) (l .last-line .ensures .0),
+      text ∙ ap (λ s. s .text ++ totalText (s .report .drive .outputs) (s .report .drive .multiplies)) (l .last-line .ensures .0),
       (count, sym (length-take-le (c .total-line .result) (c .total-line .last .0) count)),
     )
 

@@ -1,7 +1,6 @@
 -- `report::Report::last_line` meets its contract. Assumes nothing.
 use borrow.Author.Needs.{needs}
 use mathlib.Core.Path.{_≡_, refl, sym, _∙_}
-use mathlib.Core.List.{[]}
 use native.Mathlib.Omega.{arith}
 use Rattle.report.specs.Inner.{endLine, lastLine}
 use Rattle.report.proofs.Report.last_line.Statement.{statement}

@@ -1,14 +1,14 @@
 -- `report::Report::read_byte` meets its contract. Assumes nothing.
 use borrow.Author.Needs.{needs}
-use mathlib.Core.Path.{_≡_, sym, ap, ap₂, _∙_}
-use mathlib.Core.List.{List, [], _++_, append-nil}
+use mathlib.Core.Path.{_≡_, sym, ap₂}
+use mathlib.Core.List.{List, [], append-nil}
 use Prim.Native.Nat.{ℕ}
 use native.Mathlib.Omega.{arith}
 use lib.ListN.{take}
 use borrow.Author.Tests.{eq-eqb, ne-eqb}
 use Rattle.drive_text.specs.declared.Scan.{Scan}
 use Rattle.drive_text.specs.Inner.{nextScan}
-use Rattle.report.specs.Inner.{Step, behind, endLine, readByte}
+use Rattle.report.specs.Inner.{Step, endLine, readByte}
 use Rattle.report.proofs.Report.read_byte.Statement.{statement}
 use Rattle.report.proofs.Report.read_byte.Tie as tie
 

@@ -2,14 +2,12 @@
 -- make. Assumes nothing.
 use borrow.Author.Needs.{needs}
 use mathlib.Core.Path.{_≡_, refl, sym, ap, _∙_}
-use mathlib.Core.List.{List, [], _∷_, _++_, append-assoc, append-nil}
-use Prim.Native.Nat.{ℕ, suc, _+_, _-_, _*_, _≤_, _<_}
+use mathlib.Core.List.{[], append-nil}
+use Prim.Native.Nat.{_+_, _-_, _*_, _≤_, _<_}
 use native.Mathlib.Omega.{arith}
-use lib.IntN.{ℤ}
 use lib.ListN.{length, take, drop}
 use lib.Seq.{drop-length}
-use Rattle.report.specs.declared.Report.{Report}
-use Rattle.report.specs.Inner.{Step, stepOf, behind, readByte, readBytes}
+use Rattle.report.specs.Inner.{behind, readBytes}
 use Rattle.report.proofs.Bytes.{read-turn}
 use Rattle.report.proofs.Report.read_bytes.Statement.{statement}
 use Rattle.report.proofs.Report.read_bytes.Tie as tie
