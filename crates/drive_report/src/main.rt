@@ -4,6 +4,7 @@
 ghost use Rattle.io.specs.Counts.{Counts};
 use player::Voice;
 use report::Report;
+use report::TEXT_BYTES;
 use test_setting::Setting;
 
 // A report after a read, and whether the input goes on.
@@ -39,7 +40,7 @@ fn read_once(
     book: &[i32],
     store: &[i32],
     buffer: &mut [u8],
-    text: &mut [u8; 393216],
+    text: &mut [u8; TEXT_BYTES],
 ) -> Once {
     let count = read(buffer, report.left as usize);
     if count == 0 {
@@ -57,7 +58,7 @@ fn read_once(
 }
 
 // Reads to the end of the input or to its limit: a turn for each byte is enough, and one that finds the end.
-fn read_all(report: Report, book: &[i32], store: &[i32], text: &mut [u8; 393216]) -> Report {
+fn read_all(report: Report, book: &[i32], store: &[i32], text: &mut [u8; TEXT_BYTES]) -> Report {
     let mut buffer = io::buffer();
     let mut now = report;
     let mut turns = 0u32;
@@ -73,7 +74,7 @@ fn read_all(report: Report, book: &[i32], store: &[i32], text: &mut [u8; 393216]
 }
 
 // The whole input on a voice, and at its end the last line and the totals.
-fn run(voice: Voice, book: &[i32], store: &[i32], text: &mut [u8; 393216]) {
+fn run(voice: Voice, book: &[i32], store: &[i32], text: &mut [u8; TEXT_BYTES]) {
     let report = read_all(Report::fresh(voice), book, store, text);
     let count = report.end(book, store, text);
     print(text, count);
@@ -84,6 +85,6 @@ fn main() {
     let book = s.book;
     let store = s.store;
     let voice = s.voice;
-    let mut text = [0u8; 393216];
+    let mut text = [0u8; TEXT_BYTES];
     run(voice, &book, &store, &mut text);
 }

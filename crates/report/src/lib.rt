@@ -8,6 +8,11 @@ mod calls; // a line of the drive
 mod lines; // the lines that are printed
 mod pieces; // the bytes of the input
 
+// The bytes of a piece, and the room that its text needs: 96 for each, since each may end a line.
+pub const PIECE_BYTES: u64 = 4096;
+
+pub const TEXT_BYTES: usize = 393216;
+
 // What was played so far.
 pub struct Drive {
     pub voice: Voice,

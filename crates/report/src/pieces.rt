@@ -6,8 +6,10 @@ ghost use lib.ListN.{length, take};
 ghost use Rattle.io.specs.Counts.{Counts};
 ghost use Rattle.report.specs.Inner.{stepOf, behind, freshReport, endLine, readByte, readBytes, readPiece, lastLine, endText};
 use crate::Drive;
+use crate::PIECE_BYTES;
 use crate::Piece;
 use crate::Report;
+use crate::TEXT_BYTES;
 use crate::lines::total_line;
 use drive_text::Scan;
 use drive_text::least;
@@ -90,15 +92,21 @@ impl Report {
         Piece { report, count: at }
     }
 
-    // Reads a piece of at most 4096 bytes, up to the input's limit. What it prints stands at the front of `text`.
-    pub fn read(self, piece: &[u8], book: &[i32], store: &[i32], text: &mut [u8; 393216]) -> Piece
+    // Reads a piece of at most PIECE_BYTES bytes, up to the input's limit. What it prints stands at the front of `text`.
+    pub fn read(
+        self,
+        piece: &[u8],
+        book: &[i32],
+        store: &[i32],
+        text: &mut [u8; TEXT_BYTES],
+    ) -> Piece
         ensures { λ r. ⌜
             stepOf r (now (text .exit)) ≡ readPiece (now (book .entry)) (now (store .entry)) self (now (piece .entry))
             ⌝ }
         ensures { λ r. ⌜ Counts (r .count) (now (text .exit)) ⌝ }
     {
         let left = self.left as u64;
-        let count = least(least(piece.len() as u64, 4096), left);
+        let count = least(least(piece.len() as u64, PIECE_BYTES), left);
         let after = (left - count) as u32;
         let scan = self.scan;
         let drive = self.drive;
@@ -129,7 +137,7 @@ impl Report {
     }
 
     // Ends the report. What is left to print stands at the front of `text`; hands back its length.
-    pub fn end(self, book: &[i32], store: &[i32], text: &mut [u8; 393216]) -> usize
+    pub fn end(self, book: &[i32], store: &[i32], text: &mut [u8; TEXT_BYTES]) -> usize
         ensures { λ r. ⌜ take r (now (text .exit)) ≡ endText (now (book .entry)) (now (store .entry)) self ⌝ }
         ensures { λ r. ⌜ Counts r (now (text .exit)) ⌝ }
     {
