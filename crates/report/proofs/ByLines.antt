@@ -8,7 +8,7 @@ use lib.Dec.{eqb}
 use lib.IntN.{ℤ}
 use lib.ListN.{length}
 use Rattle.player.specs.declared.Voice.{Voice}
-use Rattle.drive_text.specs.declared.Line.{Line as Asked}
+use Rattle.drive_text.specs.declared.Line.{Line}
 use Rattle.drive_text.specs.declared.Line.the-variants.{Jump, Glide, Seek, Play, Other}
 use Rattle.drive_text.specs.declared.Scan.{Scan}
 use Rattle.drive_text.specs.declared.Scan.the-variants.{Fresh}
@@ -22,7 +22,7 @@ use Rattle.report.specs.Printed.{Printed, lineText, linesText, totalText
 use Rattle.report.specs.Report.{lineReport, linesReport}
 use Rattle.report.specs.Inner.{largest32, largest64, Step, Limited, tallied, driveLine, endLine, readByte, readBytes, lastLine, endText}
 use Rattle.report.proofs.HandedOut.{sum-+}
-use Rattle.report.proofs.Asked.{scan-limited}
+use Rattle.report.proofs.Limited.{scan-limited}
 use Rattle.report.proofs.Tallies.{mostOfLine, Adds, line-adds, line-kept, driveOf, counted-sums}
 
 -- ---- texts and sums of printed lines
@@ -48,7 +48,7 @@ total-alone : (o m : ℕ) → totalText o m ≡ withTotal o m []
 unfolding linesText sum
 total-alone o m = let x : o ≡ o + 0 = omega arith in let y : m ≡ m + 0 = omega arith in ap₂ totalText x y
 
-kept-limited : (line : Asked) → Limited (kept line) → Limited line
+kept-limited : (line : Line) → Limited (kept line) → Limited line
 unfolding kept
 kept-limited (Jump a) h = tt
 kept-limited (Glide a c) h = tt

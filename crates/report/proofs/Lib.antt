@@ -2,7 +2,7 @@
 pub mod Appended
 pub mod Plays
 pub mod Limits
-pub mod Asked
+pub mod Limited
 pub mod Bytes
 pub mod HandedOut
 pub mod Tallies

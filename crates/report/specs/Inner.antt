@@ -10,14 +10,14 @@ use lib.ListN.{length, take, replicate}
 use Rattle.player.specs.declared.Voice.{Voice}
 use Rattle.player.specs.declared.PlayAnswer.{PlayAnswer}
 use Rattle.player.specs.Calls.{Played, playAnswer}
-use Rattle.drive_text.specs.declared.Line.{Line as Asked}
+use Rattle.drive_text.specs.declared.Line.{Line}
 use Rattle.drive_text.specs.declared.Line.the-variants.{Jump, Glide, Seek, Play, Other}
 use Rattle.drive_text.specs.declared.Scan.the-variants.{Fresh}
 use Rattle.drive_text.specs.Lines.{lineEnd, inputLimit}
 use Rattle.drive_text.specs.Calls.{outputLimit}
 use Rattle.drive_text.specs.Inner.{nextScan, isBegun, scannedLine}
 use Rattle.report.specs.declared.Drive.{Drive}
-use Rattle.report.specs.declared.Line.{Line}
+use Rattle.report.specs.declared.Told.{Told}
 use Rattle.report.specs.declared.Report.{Report}
 use Rattle.report.specs.declared.Piece.{Piece}
 use Rattle.report.specs.Printed.{Printed, refused, played, linesText, totalText}
@@ -53,7 +53,7 @@ unfoldable pub tallied : Drive → Reported → Drive
 tallied d r = let t = counted d (r .printed) in record { voice = r .voice; plays = t .plays; outputs = t .outputs; multiplies = t .multiplies }
 
 -- what a line hands back: the drive after what it reported, and where its text ends, which stands behind the first `at` bytes
-abbrev pub Tells : Drive → Reported → ℕ → List ℕ → Line → List ℕ → Type 0
+abbrev pub Tells : Drive → Reported → ℕ → List ℕ → Told → List ℕ → Type 0
 Tells d r at before l after = (l .drive ≡ tallied d r) × (take (l .end) after ≡ take at before ++ linesText (r .printed)) × (l .end ≤ at + 96)
 
 -- what a play of so many outputs answers
@@ -67,7 +67,7 @@ abbrev pub withWords : PlayAnswer → ℕ → Played
 withWords a count = record { number = a .number; voice = a .voice; multiplies = a .multiplies; words = replicate count (pos 0) }
 
 -- a line that the language has: n is up to 4096
-abbrev pub Limited : Asked → Type 0
+abbrev pub Limited : Line → Type 0
 Limited (Jump a) = Unit
 Limited (Glide a c) = Unit
 Limited (Seek p) = Unit
@@ -96,7 +96,7 @@ behind text s = record { report = s .report; text = text ++ s .text }
 
 module _ (b store : List ℤ) where
   -- what a line prints after a drive
-  unfoldable pub driveLine : Drive → Asked → Reported
+  unfoldable pub driveLine : Drive → Line → Reported
   driveLine d line = lineReport b store (d .voice) (d .plays) line
 
   -- the line that ends here

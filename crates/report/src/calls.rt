@@ -9,11 +9,11 @@ ghost use Rattle.drive_text.specs.declared.Line.the-variants.{Play};
 ghost use Rattle.report.specs.Report.{rate as Report·rate, passedOver, afterAnswer, afterPlay};
 ghost use Rattle.report.specs.Inner.{largest32, largest64, freshDrive, Tells, Limited, countAnswer, withWords, driveLine};
 use crate::Drive;
-use crate::Line;
+use crate::Told;
 use crate::lines::played_line;
 use crate::lines::refused_line;
 use control::Order;
-use drive_text::Line as Asked;
+use drive_text::Line;
 use drive_text::least;
 use player::Answer;
 use player::PlayAnswer;
@@ -84,16 +84,16 @@ impl Drive {
     }
 
     // Passes a line over.
-    fn pass_over(self, text: &mut [u8], at: usize) -> Line
+    fn pass_over(self, text: &mut [u8], at: usize) -> Told
         requires { ⌜ at + 96 ≤ length (now text) ⌝ }
         ensures { λ r. ⌜ Tells self (passedOver (self .voice)) at (now (text .entry)) r (now (text .exit)) ⌝ }
     {
         let end = refused_line(text, at);
-        Line { drive: self, end }
+        Told { drive: self, end }
     }
 
     // After the answer of an order or a seek.
-    fn after_answer(self, answer: Answer, text: &mut [u8], at: usize) -> Line
+    fn after_answer(self, answer: Answer, text: &mut [u8], at: usize) -> Told
         requires { ⌜ at + 96 ≤ length (now text) ⌝ }
         ensures { λ r. ⌜ Tells self (afterAnswer (self .voice) answer) at (now (text .entry)) r (now (text .exit)) ⌝ }
     {
@@ -105,13 +105,13 @@ impl Drive {
                 outputs: self.outputs,
                 multiplies: self.multiplies,
             };
-            return Line { drive, end: at };
+            return Told { drive, end: at };
         }
         self.pass_over(text, at)
     }
 
     // After a play of `count` outputs.
-    fn after_play(self, answer: PlayAnswer, count: usize, text: &mut [u8], at: usize) -> Line
+    fn after_play(self, answer: PlayAnswer, count: usize, text: &mut [u8], at: usize) -> Told
         requires { ⌜ at + 96 ≤ length (now text) ⌝ }
         ensures { λ r. ⌜ Tells self (afterPlay (self .voice) (self .plays) (withWords answer count)) at (now (text .entry)) r (now (text .exit)) ⌝ }
     {
@@ -130,11 +130,11 @@ impl Drive {
             outputs: kept_sum(self.outputs, outputs),
             multiplies: kept_sum(self.multiplies, answer.multiplies),
         };
-        Line { drive, end }
+        Told { drive, end }
     }
 
     // Plays so many outputs.
-    fn play(self, count: usize, book: &[i32], store: &[i32], text: &mut [u8], at: usize) -> Line
+    fn play(self, count: usize, book: &[i32], store: &[i32], text: &mut [u8], at: usize) -> Told
         requires { ⌜ at + 96 ≤ length (now text) ⌝ }
         requires { ⌜ count ≤ 4096 ⌝ }
         ensures { λ r. ⌜
@@ -147,7 +147,7 @@ impl Drive {
     }
 
     // Orders, and seeks.
-    fn order(self, order: Order, text: &mut [u8], at: usize) -> Line
+    fn order(self, order: Order, text: &mut [u8], at: usize) -> Told
         requires { ⌜ at + 96 ≤ length (now text) ⌝ }
         ensures { λ r. ⌜
             Tells self (afterAnswer (self .voice) (orderAnswer (self .voice) order)) at (now (text .entry)) r (now (text .exit))
@@ -158,7 +158,7 @@ impl Drive {
         self.after_answer(answer, text, at)
     }
 
-    fn seek(self, position: u64, text: &mut [u8], at: usize) -> Line
+    fn seek(self, position: u64, text: &mut [u8], at: usize) -> Told
         requires { ⌜ at + 96 ≤ length (now text) ⌝ }
         ensures { λ r. ⌜
             Tells self (afterAnswer (self .voice) (seekAnswer (self .voice) position)) at (now (text .entry)) r (now (text .exit))
@@ -170,7 +170,7 @@ impl Drive {
     }
 
     // Makes the call of a line.
-    pub fn line(self, asked: Asked, book: &[i32], store: &[i32], text: &mut [u8], at: usize) -> Line
+    pub fn line(self, asked: Line, book: &[i32], store: &[i32], text: &mut [u8], at: usize) -> Told
         requires { ⌜ at + 96 ≤ length (now text) ⌝ }
         requires { ⌜ Limited asked ⌝ }
         ensures { λ r. ⌜
@@ -178,11 +178,11 @@ impl Drive {
             ⌝ }
     {
         match asked {
-            Asked::Jump(a) => self.order(Order::Jump(rate(a)), text, at),
-            Asked::Glide { rate: a, count } => self.order(glide(a, count), text, at),
-            Asked::Seek(position) => self.seek(position, text, at),
-            Asked::Play(count) => self.play(count as usize, book, store, text, at),
-            Asked::Other => self.pass_over(text, at),
+            Line::Jump(a) => self.order(Order::Jump(rate(a)), text, at),
+            Line::Glide { rate: a, count } => self.order(glide(a, count), text, at),
+            Line::Seek(position) => self.seek(position, text, at),
+            Line::Play(count) => self.play(count as usize, book, store, text, at),
+            Line::Other => self.pass_over(text, at),
         }
     }
 }

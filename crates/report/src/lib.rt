@@ -22,7 +22,7 @@ pub struct Drive {
 }
 
 // A drive after a line, and where its text ends.
-pub struct Line {
+pub struct Told {
     pub drive: Drive,
     pub end: usize,
 }

@@ -4,12 +4,12 @@ use mathlib.Core.Path.{sym, ap, ap₂, subst, _∙_}
 use mathlib.Core.List.{List}
 use Prim.Native.Nat.{ℕ}
 use lib.ListN.{take}
-use Rattle.drive_text.specs.declared.Line.{Line as Asked}
+use Rattle.drive_text.specs.declared.Line.{Line}
 use Rattle.drive_text.specs.declared.Scan.the-variants.{Fresh}
 use Rattle.report.specs.declared.Drive.{Drive}
 use Rattle.report.specs.Printed.{linesText}
 use Rattle.report.specs.Inner.{Step, behind, Limited, tallied, driveLine, endLine}
-use Rattle.report.proofs.Asked.{scan-limited}
+use Rattle.report.proofs.Limited.{scan-limited}
 use Rattle.report.proofs.Report.end_line.Statement.{statement}
 use Rattle.report.proofs.Report.end_line.Tie as tie
 
@@ -29,7 +29,7 @@ returns c =
     let s = l .before .before .before .before .before in
     let a = s .args in
     let made : Drive → List ℕ → Step = λ d t. record { report = record { left = a .self .left; scan = Fresh; drive = d }; text = t } in
-    let ended : Asked → Step = λ q. let r = driveLine (a .book .now) (a .store .now) (a .self .drive) q in behind (take (a .at) (a .text .now)) (made (tallied (a .self .drive) r) (linesText (r .printed))) in
+    let ended : Line → Step = λ q. let r = driveLine (a .book .now) (a .store .now) (a .self .drive) q in behind (take (a .at) (a .text .now)) (made (tallied (a .self .drive) r) (linesText (r .printed))) in
     (ap₂ made (l .line2 .ensures .0) (l .line2 .ensures .1) ∙ ap ended (l .before .before .line .ensures), l .line2 .ensures .2)
 
 pub end-line-spec : {M : Type 1} → statement M
