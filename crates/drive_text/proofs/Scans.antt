@@ -2,11 +2,10 @@
 use mathlib.Core.Path.{_≡_, refl, ap, _∙_}
 use mathlib.Core.Bool.{Bool, true, false, _&&_, cond}
 use mathlib.Core.List.{List, [], _∷_}
-use Prim.Native.Nat.{ℕ, _+_, _-_, _*_, _≤_, _<_, min}
-use native.Mathlib.Nat.{min-eq-left, min-eq-right}
+use Prim.Native.Nat.{ℕ, _+_, _-_, _*_, min}
 use native.Mathlib.Omega.{arith}
-use lib.Dec.{eqb, leb, ltb}
-use borrow.Author.Tests.{eqb-true, leb-true, leb-false, lt-leb, ltb-true, ltb-false}
+use lib.Dec.{eqb, leb}
+use borrow.Author.Tests.{eqb-true, leb-true, lt-leb}
 use Rattle.arith.proofs.Tests.{&&-left}
 use Rattle.drive_text.specs.declared.Line.{Line}
 use Rattle.drive_text.specs.declared.Line.the-variants.{Jump, Glide, Seek, Play, Other}
@@ -16,7 +15,7 @@ use Rattle.drive_text.specs.Lines.{Parts, blank, split}
 use Rattle.drive_text.specs.Numbers.{isDigit, allDigits, isNumber, withDigits, numberOf}
 use Rattle.drive_text.specs.Calls.{same, jumpWord, glideWord, seekWord, playWord, outputLimit, withOne, withTwo, fromParts, lineOf}
 use Rattle.drive_text.specs.Inner.{numberCap, nextNumber, wordFrom, isBegun, nextScan, scannedLine, scanFrom, kept}
-use Rattle.drive_text.proofs.Caps.{cap-grown}
+use Rattle.drive_text.proofs.Caps.{by-cap, cap-grown}
 use Rattle.drive_text.proofs.Words.{word-same}
 
 -- ---- what a line says from a scan on, by the parts of the bytes that are left
@@ -99,15 +98,7 @@ number-kept xs = digits-capped 0 xs
 
 -- what a play may ask for is below the cap
 play-kept : (n : ℕ) → cond (leb (min n numberCap) outputLimit) (Play (min n numberCap)) Other ≡ cond (leb n outputLimit) (Play n) Other
-play-kept n = go (leb n outputLimit) refl
-  where
-    go : (t : Bool) → leb n outputLimit ≡ t → cond (leb (min n numberCap) outputLimit) (Play (min n numberCap)) Other ≡ cond t (Play n) Other
-    go true p = let l : n ≤ numberCap = omega (arith, leb-true n outputLimit p) in rw (min-eq-left l) (simp p)
-    go false p = simp (lt-leb (min n numberCap) outputLimit (above (ltb n numberCap) refl))
-      where
-        above : (t : Bool) → ltb n numberCap ≡ t → outputLimit < min n numberCap
-        above true q = let l : n ≤ numberCap = omega (arith, ltb-true n numberCap q) in rw (min-eq-left l) (leb-false n outputLimit p)
-        above false q = rw (min-eq-right (ltb-false n numberCap q)) (omega arith)
+play-kept n = by-cap (λ m. cond (leb m outputLimit) (Play m) Other) n numberCap (λ l. simp (lt-leb n outputLimit (omega arith)))
 
 -- ---- the line
 

@@ -3,7 +3,7 @@ use mathlib.Core.Path.{_≡_, refl, sym, ap, ap₂, _∙_}
 use mathlib.Core.Bool.{Bool, true, false, _&&_, true≢false}
 use mathlib.Core.List.{List, [], _∷_}
 use Prim.Native.Nat.{ℕ, _+_, _*_, _≤_, _<_, min}
-use native.Mathlib.Nat.{min-eq-left, min-eq-right, min-le-right, mul-le-mul-right}
+use native.Mathlib.Nat.{min-eq-left, min-le-right, mul-le-mul-right}
 use native.Mathlib.Omega.{arith}
 use lib.Dec.{eqb, leb, ltb}
 use lib.ListN.{length}
@@ -11,7 +11,7 @@ use borrow.Author.Tests.{eqb-true, eq-eqb, leb-true, ltb-true, ltb-false}
 use Rattle.arith.proofs.Tests.{&&-left, &&-right}
 use Rattle.drive_text.specs.Calls.{same}
 use Rattle.drive_text.specs.Inner.{wordCap, nextWord, wordFrom}
-use Rattle.drive_text.proofs.Caps.{cap-grown}
+use Rattle.drive_text.proofs.Caps.{cap-grown, cap-low}
 
 -- the number of a word, without the cap
 abbrev lettersFrom : ℕ → List ℕ → ℕ
@@ -58,13 +58,6 @@ abbrev allLow : List ℕ → Bool
 allLow [] = true
 allLow (y ∷ ys) = leb y 254 && allLow ys
 
-low-letter : (x y : ℕ) → y ≤ 254 → min x 255 ≡ y → x ≡ y
-low-letter x y h e = go (ltb x 255) refl
-  where
-    go : (t : Bool) → ltb x 255 ≡ t → x ≡ y
-    go true p = let l : x ≤ 255 = omega (arith, ltb-true x 255 p) in sym (min-eq-left l) ∙ e
-    go false p = absurd (omega (arith, min-eq-right (ltb-false x 255 p)))
-
 same-letters : (w v : ℕ) (xs ys : List ℕ) → length xs ≡ length ys → allLow ys ≡ true → lettersFrom w xs ≡ lettersFrom v ys → (w ≡ v) × (same xs ys ≡ true)
 unfolding same
 same-letters w v [] [] h l e = (e, refl)
@@ -77,7 +70,7 @@ same-letters w v (x ∷ xs) (y ∷ ys) h l e =
     let y-is : min y 255 ≡ y = min-eq-left y-in in
     let x-in : min x 255 ≤ 255 = min-le-right x 255 in
     let x-is : min x 255 ≡ y = omega (arith, r .0) in
-    (omega (arith, r .0), simp (eq-eqb x y (low-letter x y y-low x-is), r .1))
+    (omega (arith, r .0), simp (eq-eqb x y (cap-low x y 255 (omega arith) x-is), r .1))
 
 same-list : (xs ys : List ℕ) → same xs ys ≡ true → xs ≡ ys
 unfolding same
@@ -95,13 +88,6 @@ letters-same xs ys l e = go (ltb (length xs) (length ys)) (ltb (length ys) (leng
     go false false p q = same-letters 1 1 xs ys (omega (arith, ltb-false (length xs) (length ys) p, ltb-false (length ys) (length xs) q)) l e .1
 
 -- ---- with the cap
-
-cap-low : (n m cap : ℕ) → m < cap → min n cap ≡ m → n ≡ m
-cap-low n m cap h e = go (ltb n cap) refl
-  where
-    go : (t : Bool) → ltb n cap ≡ t → n ≡ m
-    go true p = let l : n ≤ cap = omega (arith, ltb-true n cap p) in sym (min-eq-left l) ∙ e
-    go false p = absurd (omega (arith, min-eq-right (ltb-false n cap p)))
 
 module _ (xs ys : List ℕ) (low : allLow ys ≡ true) (short : lettersFrom 1 ys < wordCap) where
   number-of : (zs : List ℕ) → wordFrom 1 zs ≡ min (lettersFrom 1 zs) wordCap

@@ -6,15 +6,16 @@ use Prim.Native.Nat.{ℕ, _+_}
 use native.Mathlib.Nat.{add-zero}
 use native.Mathlib.Omega.{arith}
 use lib.Dec.{eqb}
+use borrow.Author.Tests.{eqb-false}
 use lib.IntN.{ℤ, pos}
 use lib.ListN.{length, replicate, length-append}
-use Rattle.control.specs.declared.Order.{Order}
 use Rattle.control.specs.declared.Order.the-variants.{Jump as JumpTo, Glide as GlideTo}
 use Rattle.player.specs.declared.Voice.{Voice}
 use Rattle.player.specs.declared.Answer.{Answer}
 use Rattle.player.specs.Calls.{orderAnswer, seekAnswer, playAnswer}
 use Rattle.player.specs.Outputs.{outputs}
-use Rattle.drive.specs.Lists.{Call, play, callVoice, callSamples, handedOut, endVoice}
+use Rattle.drive.specs.Lists.{Call, order, seek, play, callNumber, callVoice, callSamples, handedOut, endVoice}
+use Rattle.drive.proofs.Calls.{refused-voice}
 use Rattle.drive_text.specs.declared.Line.{Line}
 use Rattle.drive_text.specs.declared.Line.the-variants.{Jump, Glide, Seek, Play, Other}
 use Rattle.drive_text.specs.Calls.{lineOf}
@@ -38,14 +39,6 @@ module _ (b store : List ℤ) where
   answered v a true e kept = rw e (refl, refl)
   answered v a false e kept = rw e (refl, sym (kept refl))
 
-  order-keeps : (v : Voice) (o : Order) → eqb (orderAnswer v o .number) 0 ≡ false → orderAnswer v o .voice ≡ v
-  unfolding orderAnswer
-  order-keeps v o e = simp e
-
-  seek-keeps : (v : Voice) (p : ℕ) → eqb (seekAnswer v p .number) 0 ≡ false → seekAnswer v p .voice ≡ v
-  unfolding seekAnswer
-  seek-keeps v p e = simp e
-
   play-shows : (v : Voice) (plays : ℕ) (words : List ℤ) → Shows v (afterPlay v plays (playAnswer b store v words)) (play words ∷ [])
   unfolding afterPlay sum handedOut endVoice callSamples callVoice playAnswer
   play-shows v plays words = go (eqb (playAnswer b store v words .number) 0) refl
@@ -55,10 +48,10 @@ module _ (b store : List ℤ) where
       go false e = rw e (refl, refl)
 
   line-shows : (v : Voice) (plays : ℕ) (line : Line) → Shows v (lineReport b store v plays line) (callsOf line)
-  unfolding lineReport handedOut endVoice callSamples callVoice sum
-  line-shows v plays (Jump a) = answered v (orderAnswer v (JumpTo (rate a))) _ refl (order-keeps v (JumpTo (rate a)))
-  line-shows v plays (Glide a c) = answered v (orderAnswer v (GlideTo (rate a) c)) _ refl (order-keeps v (GlideTo (rate a) c))
-  line-shows v plays (Seek p) = answered v (seekAnswer v p) _ refl (seek-keeps v p)
+  unfolding lineReport handedOut endVoice callNumber callSamples callVoice sum
+  line-shows v plays (Jump a) = answered v (orderAnswer v (JumpTo (rate a))) _ refl (λ e. refused-voice b store v (order (JumpTo (rate a))) (eqb-false _ 0 e))
+  line-shows v plays (Glide a c) = answered v (orderAnswer v (GlideTo (rate a) c)) _ refl (λ e. refused-voice b store v (order (GlideTo (rate a) c)) (eqb-false _ 0 e))
+  line-shows v plays (Seek p) = answered v (seekAnswer v p) _ refl (λ e. refused-voice b store v (seek p) (eqb-false _ 0 e))
   line-shows v plays (Play n) = play-shows v plays (replicate n (pos 0))
   line-shows v plays Other = (refl, refl)
 

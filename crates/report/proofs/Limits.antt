@@ -1,17 +1,18 @@
 -- Numbers past a call's limits are refused alike, whatever they are: a call may be made with a number that is kept up to a cap. Assumes nothing.
-use mathlib.Core.Path.{_≡_, refl, sym, ap, _∙_}
+use mathlib.Core.Path.{_≡_, refl, sym, _∙_}
 use mathlib.Core.Bool.{Bool, true, false, cond, not, _&&_}
-use Prim.Native.Nat.{ℕ, zero, suc, _+_, _*_, _^_, _≤_, _<_, min}
-use native.Mathlib.Nat.{min-eq-left, min-eq-right, mul-le-mul-right}
+use Prim.Native.Nat.{ℕ, _+_, _*_, _^_, _≤_, _<_, min}
+use native.Mathlib.Nat.{mul-le-mul-right}
 use native.Mathlib.Omega.{arith}
-use lib.Dec.{T, eqb, leb, ltb}
+use lib.Dec.{T, eqb, leb}
 use lib.Ieee.{Float, nan, inf, fin, binary32, up, down, le, round}
 use lib.Ieee.Order.{round-mono}
 use lib.Ieee.Positive.{above-of-le, le→cross}
 use lib.IntN.{pos}
 use lib.Pow.{pow-mono}
-use borrow.Author.Tests.{ltb-true, ltb-false, le-ltb, lt-ltb, ne-eqb}
+use borrow.Author.Tests.{le-ltb, lt-ltb, ne-eqb}
 use Rattle.book.specs.Number.{refuse, _otherwise_}
+use Rattle.book.proofs.Numbers.{none-second}
 use Rattle.control.specs.declared.Order.{Order}
 use Rattle.control.specs.declared.Order.the-variants.{Jump as JumpTo, Glide as GlideTo}
 use Rattle.control.specs.Rate.{rateInRange}
@@ -20,6 +21,7 @@ use Rattle.player.specs.declared.Voice.{Voice}
 use Rattle.player.specs.Calls.{answer, orderAnswer, seekAnswer}
 use Rattle.refusals.specs.Refusals.{pointBound, glideCountWrong, positionWrong, levelsWrong, lateNumber, orderInputNumber, orderNumber, seekNumber}
 use Rattle.refusals.proofs.Valid.{levels-right}
+use Rattle.drive_text.proofs.Caps.{by-cap}
 use Rattle.report.specs.Report.{rate}
 
 -- ---- rates
@@ -48,14 +50,8 @@ rate-high a top h l = not-in-range (rate a) top l (round-mono binary32 8192 256 
 -- ---- orders
 
 -- a number that is given leaves the voice as it came
-number-given : (v w : Voice) (n : ℕ) → 0 < n → answer n (cond (eqb n 0) w v) ≡ answer n v
-number-given v w n h = simp (ne-eqb n 0 (λ (e : n ≡ 0). omega arith))
-
--- the last of numbers is above 0 where none of those before it is given
-later-given : (m n : ℕ) → 0 < n → 0 < (m otherwise n)
-unfolding _otherwise_
-later-given zero n h = h
-later-given (suc m) n h = omega arith
+number-given : (v w : Voice) (n : ℕ) → (n ≡ 0 → ⊥) → answer n (cond (eqb n 0) w v) ≡ answer n v
+number-given v w n h = simp (ne-eqb n 0 h)
 
 module _ (v : Voice) where
   -- the number of an order by its input number
@@ -63,7 +59,7 @@ module _ (v : Voice) where
   numberBy wrong n = refuse 13 wrong otherwise lateNumber (v .control) pointBound (v .history) otherwise n
 
   -- an order whose input number is given
-  order-refused : (o : Order) (n : ℕ) → 0 < n → (v .control .top ≤ 4 → orderInputNumber (v .control .top) o ≡ n)
+  order-refused : (o : Order) (n : ℕ) → (n ≡ 0 → ⊥) → (v .control .top ≤ 4 → orderInputNumber (v .control .top) o ≡ n)
       → orderAnswer v o ≡ answer (numberBy (levelsWrong (v .control)) n) v
   unfolding orderAnswer orderNumber refuse _otherwise_
   order-refused o n h given = go (levelsWrong (v .control)) refl
@@ -74,22 +70,14 @@ module _ (v : Voice) where
       go : (w : Bool) → levelsWrong (v .control) ≡ w
           → (let m = numberBy w (orderInputNumber (v .control .top) o) in answer m (cond (eqb m 0) moved v)) ≡ answer (numberBy w n) v
       go true e = refl
-      go false e = rw (given (levels-right (v .control) e .0)) (number-given v moved (lateNumber (v .control) pointBound (v .history) otherwise n) (later-given (lateNumber (v .control) pointBound (v .history)) n h))
+      go false e = rw (given (levels-right (v .control) e .0)) (number-given v moved (lateNumber (v .control) pointBound (v .history) otherwise n) (λ z. h (none-second (lateNumber (v .control) pointBound (v .history)) n z)))
 
-  orders-alike : (o p : Order) (n : ℕ) → 0 < n
+  orders-alike : (o p : Order) (n : ℕ) → (n ≡ 0 → ⊥)
       → (v .control .top ≤ 4 → orderInputNumber (v .control .top) o ≡ n) → (v .control .top ≤ 4 → orderInputNumber (v .control .top) p ≡ n)
       → orderAnswer v o ≡ orderAnswer v p
   orders-alike o p n h x y = order-refused o n h x ∙ sym (order-refused p n h y)
 
 -- ---- kept numbers
-
--- a number up to a cap, or past it
-by-cap : {A : Type 0} (f : ℕ → A) (n cap : ℕ) → (cap ≤ n → f cap ≡ f n) → f (min n cap) ≡ f n
-by-cap f n cap past = go (ltb n cap) refl
-  where
-    go : (t : Bool) → ltb n cap ≡ t → f (min n cap) ≡ f n
-    go true e = let l : n ≤ cap = omega (arith, ltb-true n cap e) in ap f (min-eq-left l)
-    go false e = let l : cap ≤ n = ltb-false n cap e in ap f (min-eq-right l) ∙ past l
 
 jump-number : (a top : ℕ) → 8192 ≤ a → top ≤ 4 → orderInputNumber top (JumpTo (rate a)) ≡ 10
 unfolding orderInputNumber refuse
@@ -110,26 +98,26 @@ count-number r c top h = simp (ne-eqb c 0 (λ (e : c ≡ 0). omega arith), lt-lt
 module _ (v : Voice) where
   pub jump-kept : (a cap : ℕ) → 8192 ≤ cap → orderAnswer v (JumpTo (rate (min a cap))) ≡ orderAnswer v (JumpTo (rate a))
   jump-kept a cap h = by-cap (λ n. orderAnswer v (JumpTo (rate n))) a cap
-      (λ l. orders-alike v (JumpTo (rate cap)) (JumpTo (rate a)) 10 (omega arith) (jump-number cap (v .control .top) h) (jump-number a (v .control .top) (omega arith)))
+      (λ l. orders-alike v (JumpTo (rate cap)) (JumpTo (rate a)) 10 (λ z. omega arith) (jump-number cap (v .control .top) h) (jump-number a (v .control .top) (omega arith)))
 
   rate-kept : (a c cap : ℕ) → 8192 ≤ cap → orderAnswer v (GlideTo (rate (min a cap)) c) ≡ orderAnswer v (GlideTo (rate a) c)
   rate-kept a c cap h = by-cap (λ n. orderAnswer v (GlideTo (rate n) c)) a cap
-      (λ l. orders-alike v (GlideTo (rate cap) c) (GlideTo (rate a) c) 10 (omega arith) (glide-number cap c (v .control .top) h) (glide-number a c (v .control .top) (omega arith)))
+      (λ l. orders-alike v (GlideTo (rate cap) c) (GlideTo (rate a) c) 10 (λ z. omega arith) (glide-number cap c (v .control .top) h) (glide-number a c (v .control .top) (omega arith)))
 
   count-kept : (r : Float) (c cap : ℕ) → 65536 < cap → orderAnswer v (GlideTo r (min c cap)) ≡ orderAnswer v (GlideTo r c)
   count-kept r c cap h = by-cap (λ n. orderAnswer v (GlideTo r n)) c cap
       (λ l. orders-alike v (GlideTo r cap) (GlideTo r c) (cond (rateInRange r (v .control .top)) 11 10) (some (rateInRange r (v .control .top))) (λ t. count-number r cap (v .control .top) h) (λ t. count-number r c (v .control .top) (omega arith)))
     where
-      some : (t : Bool) → 0 < cond t 11 10
-      some true = omega arith
-      some false = omega arith
+      some : (t : Bool) → cond {A = ℕ} t 11 10 ≡ 0 → ⊥
+      some true z = omega arith
+      some false z = omega arith
 
   pub glide-kept : (a c cap countCap : ℕ) → 8192 ≤ cap → 65536 < countCap → orderAnswer v (GlideTo (rate (min a cap)) (min c countCap)) ≡ orderAnswer v (GlideTo (rate a) c)
   glide-kept a c cap countCap h l = rate-kept a (min c countCap) cap h ∙ count-kept (rate a) c countCap l
 
   seek-refused : (p : ℕ) → 2 ^ 60 < p → seekAnswer v p ≡ answer (numberBy v (levelsWrong (v .control)) 12) v
   unfolding seekAnswer seekNumber positionWrong refuse
-  seek-refused p l = rw (lt-ltb (2 ^ 60) p l) (number-given v _ (numberBy v (levelsWrong (v .control)) 12) (later-given _ _ (later-given (lateNumber (v .control) pointBound (v .history)) 12 (omega arith))))
+  seek-refused p l = rw (lt-ltb (2 ^ 60) p l) (number-given v _ (numberBy v (levelsWrong (v .control)) 12) (λ z. let y : 12 ≡ 0 = none-second _ 12 (none-second _ _ z) in omega arith))
 
   pub seek-kept : (p cap : ℕ) → 2 ^ 60 < cap → seekAnswer v (min p cap) ≡ seekAnswer v p
   seek-kept p cap h = by-cap (seekAnswer v) p cap (λ l. seek-refused cap h ∙ sym (seek-refused p (omega arith)))

@@ -1,13 +1,12 @@
 -- The fewest digits that hold a number are its decimal text. Assumes nothing.
-use mathlib.Core.Path.{_≡_, refl, ap, ap₂, _∙_}
+use mathlib.Core.Path.{_≡_, refl, ap, ap₂}
 use mathlib.Core.Bool.{Bool, true, false}
 use mathlib.Core.List.{[], _∷_, _++_}
 use Prim.Native.Nat.{ℕ, zero, suc, _+_, _*_, _-_, _/_, _%_, _^_, _≤_, _<_}
-use native.Mathlib.Nat.{pow-suc}
+use native.Mathlib.Nat.{one-le-pow, pow-le-pow-right, pow-suc}
 use native.Mathlib.Numerals.{unary-clauses}
 use native.Mathlib.Omega.{arith}
 use lib.Dec.{ltb}
-use lib.Pow.{pow-add}
 use borrow.Author.Tests.{lt-ltb, le-ltb, ltb-true, ltb-false}
 use Rattle.io.specs.Digits.{glyph, digits, Fewest}
 use Rattle.text.specs.Decimal.{lastDigits, decimal}
@@ -16,8 +15,7 @@ digit-glyph : (n : ℕ) → glyph (n % 10) ≡ 48 + n % 10
 digit-glyph n = let l : n % 10 < 10 = omega arith in simp (lt-ltb (n % 10) 10 l)
 
 power-pos : (k : ℕ) → 1 ≤ 10 ^ k
-power-pos zero = omega arith
-power-pos (suc k) = let p : 10 ^ suc k ≡ 10 ^ k * 10 = pow-suc 10 k in omega (arith, power-pos k)
+power-pos k = one-le-pow k 10 (omega arith)
 
 power-large : (k : ℕ) → k ≤ 10 ^ k
 power-large zero = omega arith
@@ -53,9 +51,8 @@ twenty-digits k n h f = go (ltb 20 k) refl
   where
     go : (t : Bool) → ltb 20 k ≡ t → k ≤ 20
     go true e =
-        let l : 20 < k = ltb-true 20 k e in
-        let i : k - 1 ≡ 20 + (k - 21) = omega arith in
-        let p : 10 ^ (k - 1) ≡ 10 ^ 20 * 10 ^ (k - 21) = ap (λ j. 10 ^ j) i ∙ pow-add 10 20 (k - 21) in
-        let low : 10 ^ (k - 1) ≤ n = f .2 (omega arith) in
-        absurd (omega (arith, power-pos (k - 21)))
+        let l : 20 ≤ k - 1 = omega (arith, ltb-true 20 k e) in
+        let low : 10 ^ (k - 1) ≤ n = f .2 (omega (arith, ltb-true 20 k e)) in
+        let high : 10 ^ 20 ≤ 10 ^ (k - 1) = pow-le-pow-right (omega arith) l in
+        absurd (omega arith)
     go false e = ltb-false 20 k e

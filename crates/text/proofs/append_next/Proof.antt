@@ -1,7 +1,8 @@
 -- `text::append_next` meets its contract. Assumes nothing.
 use borrow.Author.Needs.{needs}
-use mathlib.Core.Path.{ap, _∙_}
-use mathlib.Core.List.{_++_, _∷_, [], append-assoc}
+use mathlib.Core.Path.{_≡_, ap, _∙_}
+use mathlib.Core.List.{List, _++_, _∷_, [], append-assoc}
+use Prim.Native.Nat.{ℕ}
 use native.Mathlib.Omega.{arith}
 use lib.ListN.{take}
 use Rattle.text.specs.Decimal.{decimal}
@@ -25,7 +26,9 @@ returns c =
     let d = c .before .before .append-decimal in
     let b = c .before .before .before .before .before .before in
     let s = b .before .before .before .before in
-    (d .ensures .0 ∙ ap (λ r. r ++ decimal (s .args .n)) (b .append .ensures .0) ∙ append-assoc (take (s .args .at) (s .args .text .now)) (32 ∷ []) (decimal (s .args .n)), omega (arith, d .ensures .1, b .append .ensures .1))
+    let before : List ℕ = take (s .args .at) (s .args .text .now) in
+    let number : take (d .result) (d .last .0) ≡ take (b .append .result) (b .append .last .0) ++ decimal (s .args .n) = d .ensures .0 in
+    (number ∙ ap (λ r. r ++ decimal (s .args .n)) (b .append .ensures .0) ∙ append-assoc before (32 ∷ []) (decimal (s .args .n)), omega (arith, d .ensures .1, b .append .ensures .1))
 
 pub append-next-spec : {M : Type 1} → statement M
 append-next-spec =
