@@ -6,6 +6,7 @@ pub mod Bits
 pub mod Floor
 pub mod Limit
 pub mod Rest
+pub mod Rounding
 pub mod Sum
 pub mod Lists
 pub mod Parts

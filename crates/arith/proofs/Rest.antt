@@ -1,33 +1,29 @@
 -- What a division rounded down leaves over. To round a / (2h · m) to the nearest, the floor of a / m and whether m divides a are enough:
--- a half lies at a multiple of m, so a rest below m never crosses one. The statements hold for any rule that only asks on which side of
--- a half the number lies, or that it is a half; the proofs open `near`. Assumes nothing.
+-- a half lies at a multiple of m, so a rest below m never crosses one, and what has a rest is no half. Assumes nothing.
 use mathlib.Core.Path.{_≡_, refl, sym, ap, _∙_}
-use mathlib.Core.Bool.{Bool, true, false, _&&_, cond}
-use mathlib.Core.Logic.{_↔_, _⊎_, inl, inr}
+use mathlib.Core.Bool.{Bool, true, false, not, cond}
+use mathlib.Core.Logic.{_⊎_, inl, inr}
 use Prim.Native.Nat.{ℕ, suc, _*_, _%_, _/_, _<_}
-use native.Mathlib.Nat.{div-add-mod, mul-mod-right}
+use native.Mathlib.Nat.{div-add-mod, mul-mod-right, mul-pos, mul-lt-mul-of-pos-right}
 use native.Mathlib.Omega.{arith}
-use borrow.Author.Tests.{eqb-true, eqb-false}
+use borrow.Author.Tests.{eqb-true, eqb-false, ne-eqb}
 use lib.Dec.{eqb}
-use lib.IntN.{ℤ, pos, negsuc, negℤ, natAbs, _+ℤ_, _*ℤ_}
+use lib.IntN.{ℤ, pos, negsuc, negℤ, natAbs, _+ℤ_, _-ℤ_, _*ℤ_}
 use lib.Signed.{_≤ℤ_, _<ℤ_, remZ}
 use lib.Pow.{pow-pos}
 use mir.Syntax.{Width}
-use mir.Val.{hbits, SFits, toZ, ofZ}
-use mir.ValLaws.{toZ-ofZ, toZ-pos}
+use mir.Val.{hbits, SFits, ofZ}
 use Rattle.arith.specs.Floor.{floorDiv, near}
+use Rattle.arith.specs.Tests.{eqZ}
 use Rattle.arith.proofs.Linear.{linear, abs-neg, abs-pos-*}
-use Rattle.arith.proofs.Integers.{*ℤ-assoc, *ℤ-≤ℤ-pos, <ℤ-suc, ≤ℤ-antisymm, ≤ℤ-or-<ℤ, abs-zero}
-use Rattle.arith.proofs.Floor.{floor-≤, floor-unique, floor-+, floor-floor, rem-fits}
+use Rattle.arith.proofs.Integers.{*ℤ-≤ℤ-pos, ≤ℤ-antisymm, ≤ℤ-or-<ℤ, abs-fits}
+use Rattle.arith.proofs.Tests.{eqb-bits}
+use Rattle.arith.proofs.Floor.{Nearest, closer, halfway, near-nearest, near-is, floor-≤, floor-<, floor-unique, floor-+, rem-fits}
 
--- r is 0 where m divides a, and 1 where it does not
-pub data Rest (a : ℤ) (m : ℕ) : ℤ → Type 0 where
-  none : a ≡ pos m *ℤ floorDiv a m → Rest a m (pos 0)
-  some : (pos m *ℤ floorDiv a m) <ℤ a → Rest a m (pos 1)
-
-rest-small : {a : ℤ} {m : ℕ} {r : ℤ} → Rest a m r → (pos 0 ≤ℤ r) × (r ≤ℤ pos 1)
-rest-small (none e) = simp linear (omega arith)
-rest-small (some l) = simp linear (omega arith)
+-- whether m does not divide a
+pub data Rest (a : ℤ) (m : ℕ) : Bool → Type 0 where
+  none : a ≡ pos m *ℤ floorDiv a m → Rest a m false
+  some : (pos m *ℤ floorDiv a m) <ℤ a → Rest a m true
 
 -- ---- the test of the size's remainder
 
@@ -52,10 +48,10 @@ not-divided a {m} h n = go (≤ℤ-or-<ℤ a (pos m *ℤ floorDiv a m))
     go (inr k) = k
 
 -- so that test says which rest it is
-pub rest-by : (a : ℤ) {m : ℕ} → 0 < m → Rest a m (cond (eqb (natAbs a % m) 0) (pos 0) (pos 1))
+pub rest-by : (a : ℤ) {m : ℕ} → 0 < m → Rest a m (not (eqb (natAbs a % m) 0))
 rest-by a {m} h = go (eqb (natAbs a % m) 0) refl
   where
-    go : (t : Bool) → eqb (natAbs a % m) 0 ≡ t → Rest a m (cond t (pos 0) (pos 1))
+    go : (t : Bool) → eqb (natAbs a % m) 0 ≡ t → Rest a m (not t)
     go true e = none (divided a h (eqb-true (natAbs a % m) 0 e))
     go false e = some (not-divided a h (eqb-false (natAbs a % m) 0 e))
 
@@ -64,60 +60,45 @@ abs-rem : (a b : ℤ) → natAbs (remZ a b) ≡ natAbs a % natAbs b
 abs-rem (pos n) b = refl
 abs-rem (negsuc n) b = abs-neg (pos (suc n % natAbs b))
 
--- the code tests its bits
-pub rem-bits : (w : Width) (a b : ℤ) → SFits w a → (ofZ w (remZ a b) ≡ 0) ↔ (natAbs a % natAbs b ≡ 0)
-rem-bits w a b f = (
-  (λ e. sym (abs-rem a b) ∙ ap natAbs (sym (toZ-ofZ w (remZ a b) (rem-fits w a b f)) ∙ ap (toZ w) e ∙ toZ-pos w 0 (pow-pos (hbits w)))),
-  (λ e. ap (ofZ w) (abs-zero {a = remZ a b} (abs-rem a b ∙ e))),
-)
+zero-size : (a : ℤ) → eqZ a (pos 0) ≡ eqb (natAbs a) 0
+unfolding eqZ
+zero-size (pos n) = refl
+zero-size (negsuc n) = sym (ne-eqb (suc n) 0 (λ e. omega (arith, e)))
 
--- ---- of a sum, and of two divisions
+-- the code tests its bits
+pub rem-bits : (w : Width) (a b : ℤ) → SFits w a → eqb (ofZ w (remZ a b)) 0 ≡ eqb (natAbs a % natAbs b) 0
+rem-bits w a b f =
+    eqb-bits w (remZ a b) (pos 0) (rem-fits w a b f) (abs-fits w (pos 0) (pow-pos (hbits w))) ∙ zero-size (remZ a b) ∙ ap (λ n. eqb n 0) (abs-rem a b)
+
+-- ---- of a sum
 
 -- whole divisors leave nothing
-pub rest-+ : (a c : ℤ) {m : ℕ} {r : ℤ} → 0 < m → Rest a m r → Rest (a +ℤ pos m *ℤ c) m r
+pub rest-+ : (a c : ℤ) {m : ℕ} {r : Bool} → 0 < m → Rest a m r → Rest (a +ℤ pos m *ℤ c) m r
 rest-+ a c {m} h (none e) = none (rw floor-+ (simp linear (omega (arith, simp linear at e))))
 rest-+ a c {m} h (some l) = some (rw floor-+ (simp linear (omega (arith, simp linear at l))))
 
--- by m and then by k leaves nothing where both leave nothing
-module _ (a : ℤ) {m k : ℕ} (h : 0 < m) (l : 0 < k) where
-  less-first : (pos m *ℤ floorDiv a m) <ℤ a → (pos (m * k) *ℤ floorDiv (floorDiv a m) k) <ℤ a
-  less-first d =
-      let p = *ℤ-≤ℤ-pos m (floor-≤ (floorDiv a m) l) in
-      simp linear (omega (arith, simp linear at d, simp linear at p))
-
-  less-second : (pos k *ℤ floorDiv (floorDiv a m) k) <ℤ floorDiv a m → (pos (m * k) *ℤ floorDiv (floorDiv a m) k) <ℤ a
-  less-second e =
-      let p = *ℤ-≤ℤ-pos m (<ℤ-suc e) in
-      simp linear (omega (arith, simp linear at (floor-≤ a h), simp linear at p))
-
-  pub rest-floor : (s t : Bool) → Rest a m (cond s (pos 0) (pos 1)) → Rest (floorDiv a m) k (cond t (pos 0) (pos 1)) → Rest a (m * k) (cond (s && t) (pos 0) (pos 1))
-  rest-floor true true (none d) (none e) =
-      none (rw (← floor-floor) (d ∙ ap (λ (z : ℤ). pos m *ℤ z) e ∙ sym (*ℤ-assoc (pos m) (pos k) (floorDiv (floorDiv a m) k))))
-  rest-floor true false (none d) (some e) = some (rw (← floor-floor) (less-second e))
-  rest-floor false t (some d) e = some (rw (← floor-floor) (less-first d))
-
 -- ---- rounded to the nearest
 
--- by an even divisor it is an addition and a division rounded down
-near-even : (a : ℤ) (h : ℕ) → near a (2 * h) ≡ floorDiv (a +ℤ pos h) (2 * h)
-unfolding near
-near-even a h =
-    let b = pos 2 *ℤ a +ℤ pos (2 * h) in
-    sym (floor-floor b 2 (2 * h)) ∙ ap (λ (z : ℤ). floorDiv z (2 * h)) (floor-unique b (omega arith) (simp linear (omega arith)) (simp linear (omega arith)))
-
--- both sides are the floor of (⌊a / m⌋ + h) / 2h
-pub near-rest : (a : ℤ) (h m : ℕ) {r : ℤ} → 0 < h → 0 < m → Rest a m r → near a (2 * h * m) ≡ near (pos 2 *ℤ floorDiv a m +ℤ r) (2 * (2 * h))
-near-rest a h m {r} l z s = by-floor ∙ sym (by-rest (rest-small s))
+-- a rest counts as a half of one above the floor
+pub near-rest : (a : ℤ) (h m : ℕ) {r : Bool} → 0 < h → 0 < m → Rest a m r → near a (2 * h * m) ≡ near (pos 2 *ℤ floorDiv a m +ℤ cond r (pos 1) (pos 0)) (2 * (2 * h))
+near-rest a h m {r} l z s = near-is a (omega (arith, mul-pos l z)) (go s (near-nearest (pos 2 *ℤ f +ℤ cond r (pos 1) (pos 0)) (omega (arith, l))))
   where
-    by-floor : near a (2 * h * m) ≡ floorDiv (floorDiv a m +ℤ pos h) (2 * h)
-    by-floor =
-        let e : 2 * h * m ≡ 2 * (m * h) = omega arith in
-        let d : 2 * (m * h) ≡ m * (2 * h) = omega arith in
-        ap (near a) e ∙ near-even a (m * h) ∙ ap (floorDiv (a +ℤ pos (m * h))) d ∙ sym (floor-floor (a +ℤ pos (m * h)) m (2 * h))
-        ∙ ap (λ (x : ℤ). floorDiv x (2 * h)) (floor-+ a (pos h) z)
+    f : ℤ
+    f = floorDiv a m
 
-    by-rest : (pos 0 ≤ℤ r) × (r ≤ℤ pos 1) → near (pos 2 *ℤ floorDiv a m +ℤ r) (2 * (2 * h)) ≡ floorDiv (floorDiv a m +ℤ pos h) (2 * h)
-    by-rest k =
-        let x = pos 2 *ℤ floorDiv a m +ℤ r +ℤ pos (2 * h) in
-        let f : floorDiv x 2 ≡ floorDiv a m +ℤ pos h = floor-unique x (omega arith) (simp linear (omega (arith, simp linear at k))) (simp linear (omega (arith, simp linear at k))) in
-        near-even (pos 2 *ℤ floorDiv a m +ℤ r) (2 * h) ∙ sym (floor-floor x 2 (2 * h)) ∙ ap (λ (y : ℤ). floorDiv y (2 * h)) f
+    go : {r : Bool} → Rest a m r → {q : ℤ} → Nearest (pos 2 *ℤ f +ℤ cond r (pos 1) (pos 0)) (2 * (2 * h)) q → Nearest a (2 * h * m) q
+    go (none e) (closer q k) =
+        let x = pos (4 * h) *ℤ q -ℤ pos 2 *ℤ f in
+        let apart : pos (2 * (2 * h * m)) *ℤ q -ℤ pos 2 *ℤ a ≡ pos m *ℤ x = simp linear (omega (arith, simp linear at e)) in
+        let small : natAbs x < 2 * h = simp linear (omega (arith, simp linear at k)) in
+        closer q (rw (apart, abs-pos-*) (omega (arith, mul-lt-mul-of-pos-right small z)))
+    go (none e) (halfway n k) =
+        let f-is : f ≡ pos (2 * h) *ℤ n +ℤ pos h = simp linear (omega (arith, simp linear at k)) in
+        let a-is : a ≡ pos m *ℤ (pos (2 * h) *ℤ n +ℤ pos h) = e ∙ ap (λ x. pos m *ℤ x) f-is in
+        halfway n (simp linear (omega (arith, simp linear at a-is)))
+    go (some d) (closer q k) =
+        let x = pos (2 * h) *ℤ q -ℤ f in
+        let high : (x *ℤ pos m) ≤ℤ (pos h *ℤ pos m) = *ℤ-≤ℤ-pos {a = x} {b = pos h} m (simp linear (omega (arith, simp linear at k))) in
+        let low : ((pos 1 -ℤ pos h) *ℤ pos m) ≤ℤ (x *ℤ pos m) = *ℤ-≤ℤ-pos {a = pos 1 -ℤ pos h} {b = x} m (simp linear (omega (arith, simp linear at k))) in
+        closer q (simp linear (omega (arith, simp linear at d, simp linear at (floor-< a z), simp linear at high, simp linear at low)))
+    go (some d) (halfway n k) = absurd (omega (arith, simp linear at k))

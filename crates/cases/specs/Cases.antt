@@ -1,12 +1,12 @@
--- The starred bench cases of document 01 as one table, case I as document 02 (a) has it, and the sample that document 02 (b) states: what the
--- definitions give, and what the documents state.
+-- The starred bench cases of document 01 as one table, case I as document 02 (a) has it, cases E and F as (g) has them, and the sample that
+-- document 02 (b) states: what the definitions give, and what the documents state.
 use mathlib.Core.Path.{_≡_, refl}
 use mathlib.Core.List.{List, [], _∷_, map}
 use Prim.Native.Nat.{ℕ}
 use lib.Ieee.{Float, binary32, ofBits}
 use lib.IntN.{ℤ, pos, negsuc}
 use lib.ListN.{length, replicate}
-use Rattle.arith.specs.Floor.{floorDiv, near}
+use Rattle.arith.specs.Floor.{floorDiv, evenOf, nearest, near}
 use Rattle.arith.specs.Lists.{wordAt, tabulate}
 use Rattle.arith.specs.Sum.{sum, total, sumAround}
 use Rattle.arith.specs.Tests.{eqZ, every}
@@ -88,18 +88,18 @@ caseD = record {
   stated = pos 0 ∷ pos 0 ∷ [];
 }
 
--- near(1/2) = 1, near(−1/2) = 0, near(−3/2) = −1, near(−5/4) = −1
+-- near(1/2) = 0, near(−1/2) = 0, near(−3/2) = −2, near(−5/4) = −1
 unfoldable pub caseE : Case
 caseE = record {
   found = near (pos 1) 2 ∷ near (negsuc 0) 2 ∷ near (negsuc 2) 2 ∷ near (negsuc 4) 4 ∷ [];
-  stated = pos 1 ∷ pos 0 ∷ negsuc 0 ∷ negsuc 0 ∷ [];
+  stated = pos 0 ∷ pos 0 ∷ negsuc 1 ∷ negsuc 0 ∷ [];
 }
 
--- K with h[0] = 32: sample 1 stands in level 1 as 1, sample −1 as 0; before the levels stand S 1, T 1 and two lengths of 1
+-- K with h[0] = 32: sample 1 stands in level 1 as 0, sample −1 as 0; before the levels stand S 1, T 1 and two lengths of 1
 unfoldable pub caseF₁ : Case
 caseF₁ = record {
   found = storeFor (bookWith 1 32 16384) (pos 1 ∷ []) 1;
-  stated = pos 1 ∷ pos 1 ∷ pos 1 ∷ pos 1 ∷ pos 256 ∷ pos 1 ∷ [];
+  stated = pos 1 ∷ pos 1 ∷ pos 1 ∷ pos 1 ∷ pos 256 ∷ pos 0 ∷ [];
 }
 
 unfoldable pub caseF₂ : Case
@@ -153,7 +153,7 @@ starredCases = caseA ∷ caseB ∷ caseC ∷ caseD ∷ caseE ∷ caseF₁ ∷ ca
 
 -- each case is as stated
 pub starred : map (λ c. c .found) starredCases ≡ map (λ c. c .stated) starredCases
-unfolding starredCases caseA caseB caseC caseD caseE caseF₁ caseF₂ caseG₁ caseG₂ caseH caseI caseJ caseHum nextState sampleOf stateAfter humSamples floorDiv near wordAt tabulate sum total sumAround eqZ every refuse _otherwise_ sizesOf differencesAt levelTapsAt decimationTapsAt bookLength impulseWord impulse difference levelTaps decimationTaps powerOfTwo sizesInRange wordsInRange coefficientsInRange differencesRight phaseSum tapSum sumsInRange bookNumber halfLength samplesInRange topInRange levelLength levelsBelow headerLength levelStart storeLength headerOf sampleCount topLevel storeLevel lengthsRight storeNumber firstLevel levelSum levelWord nextLevel levelOf levelsOf buildNumber builtStore buildAnswer ofBits rateInRange rateOf octaveLevel askedLevel advance freshControl jumped gliding sought glideRate glideAfter moveGlide fadeTarget pointPlan fadeAfter movePoint moveOutput limit limitedWord unit phaseAt offsetAt coefficient valueSum levelValue value point push pushTwo outputSum output nextVoice voiceAfter outputs glideCountWrong outputCountWrong positionWrong levelsWrong topWrong levelsNumber fadeWrong rateWrong glideWrong historyWrong lateNumber openNumber orderInputNumber orderNumber seekNumber playStateNumber playNumber zeroVoice freshVoice openAnswer ordered orderAnswer seekAnswer playAnswer
+unfolding starredCases caseA caseB caseC caseD caseE caseF₁ caseF₂ caseG₁ caseG₂ caseH caseI caseJ caseHum nextState sampleOf stateAfter humSamples floorDiv evenOf nearest near wordAt tabulate sum total sumAround eqZ every refuse _otherwise_ sizesOf differencesAt levelTapsAt decimationTapsAt bookLength impulseWord impulse difference levelTaps decimationTaps powerOfTwo sizesInRange wordsInRange coefficientsInRange differencesRight phaseSum tapSum sumsInRange bookNumber halfLength samplesInRange topInRange levelLength levelsBelow headerLength levelStart storeLength headerOf sampleCount topLevel storeLevel lengthsRight storeNumber firstLevel levelSum levelWord nextLevel levelOf levelsOf buildNumber builtStore buildAnswer ofBits rateInRange rateOf octaveLevel askedLevel advance freshControl jumped gliding sought glideRate glideAfter moveGlide fadeTarget pointPlan fadeAfter movePoint moveOutput limit limitedWord unit phaseAt offsetAt coefficient valueSum levelValue value point push pushTwo outputSum output nextVoice voiceAfter outputs glideCountWrong outputCountWrong positionWrong levelsWrong topWrong levelsNumber fadeWrong rateWrong glideWrong historyWrong lateNumber openNumber orderInputNumber orderNumber seekNumber playStateNumber playNumber zeroVoice freshVoice openAnswer ordered orderAnswer seekAnswer playAnswer
 starred = refl
 
 -- ---- a play of more outputs than a program here can lend: 1048577 is refused 11, after 17; 1048576 is accepted
@@ -169,5 +169,5 @@ longPlays =
     }
 
 pub long-plays : longPlays .found ≡ longPlays .stated
-unfolding longPlays floorDiv near wordAt tabulate sum total sumAround eqZ every refuse _otherwise_ sizesOf differencesAt levelTapsAt decimationTapsAt bookLength impulseWord impulse difference levelTaps decimationTaps powerOfTwo sizesInRange wordsInRange coefficientsInRange differencesRight phaseSum tapSum sumsInRange bookNumber halfLength samplesInRange topInRange levelLength levelsBelow headerLength levelStart storeLength headerOf sampleCount topLevel storeLevel lengthsRight storeNumber firstLevel levelSum levelWord nextLevel levelOf levelsOf buildNumber builtStore buildAnswer ofBits rateInRange rateOf octaveLevel askedLevel advance freshControl jumped gliding sought glideRate glideAfter moveGlide fadeTarget pointPlan fadeAfter movePoint moveOutput limit limitedWord unit phaseAt offsetAt coefficient valueSum levelValue value point push pushTwo outputSum output nextVoice voiceAfter outputs glideCountWrong outputCountWrong positionWrong levelsWrong topWrong levelsNumber fadeWrong rateWrong glideWrong historyWrong lateNumber openNumber orderInputNumber orderNumber seekNumber playStateNumber playNumber zeroVoice freshVoice openAnswer ordered orderAnswer seekAnswer playAnswer
+unfolding longPlays floorDiv evenOf nearest near wordAt tabulate sum total sumAround eqZ every refuse _otherwise_ sizesOf differencesAt levelTapsAt decimationTapsAt bookLength impulseWord impulse difference levelTaps decimationTaps powerOfTwo sizesInRange wordsInRange coefficientsInRange differencesRight phaseSum tapSum sumsInRange bookNumber halfLength samplesInRange topInRange levelLength levelsBelow headerLength levelStart storeLength headerOf sampleCount topLevel storeLevel lengthsRight storeNumber firstLevel levelSum levelWord nextLevel levelOf levelsOf buildNumber builtStore buildAnswer ofBits rateInRange rateOf octaveLevel askedLevel advance freshControl jumped gliding sought glideRate glideAfter moveGlide fadeTarget pointPlan fadeAfter movePoint moveOutput limit limitedWord unit phaseAt offsetAt coefficient valueSum levelValue value point push pushTwo outputSum output nextVoice voiceAfter outputs glideCountWrong outputCountWrong positionWrong levelsWrong topWrong levelsNumber fadeWrong rateWrong glideWrong historyWrong lateNumber openNumber orderInputNumber orderNumber seekNumber playStateNumber playNumber zeroVoice freshVoice openAnswer ordered orderAnswer seekAnswer playAnswer
 long-plays = refl

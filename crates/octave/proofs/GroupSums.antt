@@ -6,10 +6,11 @@ use Prim.Native.Nat.{ℕ, suc, _+_, _*_, _≤_, _<_, pred}
 use native.Mathlib.Decide.{decLe}
 use native.Mathlib.Omega.{arith}
 use lib.IntN.{ℤ, pos, natAbs, _+ℤ_, _-ℤ_, _*ℤ_}
-use lib.ListN.{length, length-map, List·getD-map}
+use lib.ListN.{length, getD, length-map, List·getD-map}
 use lib.Seq.{ext-getD}
-use Rattle.arith.specs.Floor.{floorDiv, near}
+use Rattle.arith.specs.Floor.{near}
 use Rattle.arith.specs.Lists.{at, wordAt, part}
+use Rattle.arith.proofs.Floor.{near-exact}
 use Rattle.arith.proofs.Linear.{linear}
 use Rattle.arith.proofs.Lists.{at-outside, at-part, part-length, length-tabulate, getD-tabulate, tabulate-ext}
 use Rattle.book.specs.Check.{tapSum}
@@ -46,8 +47,9 @@ module _ (h level : List ℤ) (centre : ℕ) where
 
 -- a sum's word
 pub at-words : (sums : List ℤ) (j : ℕ) → at (map (λ x. near x 16384) sums) j ≡ near (at sums j) 16384
-unfolding near floorDiv
-at-words sums j = List·getD-map (λ x. near x 16384) sums j (pos 0)
+at-words sums j =
+    let f : ℤ → ℤ = λ x. near x 16384 in
+    ap (getD (map f sums) j) (sym (near-exact (pos 0) {b = 16384} (omega arith))) ∙ List·getD-map f sums j (pos 0)
 
 -- the words of sums around word 2n and each second word after it
 pub words-are : (h level : List ℤ) (n m : ℕ) → n + m ≤ halfLength (length level) → map (λ x. near x 16384) (sumsAround h level (pred (length h)) (2 * n) m) ≡ part (nextLevel h level) n m

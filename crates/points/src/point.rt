@@ -17,7 +17,7 @@ fn faded(old: i32, new: i32, step: u32, fade: u32) -> i32
     ensures { λ r. ⌜ r ≡ near (pos (fade - step) *ℤ old +ℤ pos step *ℤ new) fade ⌝ }
 {
     let sum = (fade - step) as i64 * old as i64 + step as i64 * new as i64;
-    arith::near(sum, fade as i64) as i32
+    arith::near_by(sum, fade as i64) as i32
 }
 
 // A point from its plan and the words of its two levels.

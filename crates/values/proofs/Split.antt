@@ -9,12 +9,14 @@ use native.Mathlib.Decide.{decLt}
 use native.Mathlib.Omega.{arith}
 use lib.IntN.{ℤ, pos, negsuc, negℤ, natAbs, _+ℤ_, _-ℤ_, _*ℤ_, *ℤ-comm}
 use lib.ListN.{drop}
+use lib.Pow.{pow-pos}
 use lib.Seq.{getD-drop}
 use Rattle.arith.specs.Floor.{near}
 use Rattle.arith.specs.Lists.{at}
 use Rattle.arith.specs.Sum.{total}
 use Rattle.arith.specs.Tests.{within}
-use Rattle.arith.proofs.Linear.{abs-neg}
+use Rattle.arith.proofs.Linear.{linear, abs-neg}
+use Rattle.arith.proofs.Floor.{near-scale}
 use Rattle.arith.proofs.Ring.{products, terms}
 use Rattle.arith.proofs.Integers.{abs-triangle}
 use Rattle.arith.proofs.Lists.{at-outside}
@@ -27,7 +29,7 @@ use Rattle.book.proofs.Accepted.{Accepted, sizes-bounded, sizes-room, impulseWo
 use Rattle.book.proofs.Parts.{impulse-stored, impulse-past, impulse-end}
 use Rattle.values.specs.Values.{limitedWord, unit, phaseAt, offsetAt, coefficient, valueSum, levelValue}
 use Rattle.values.specs.Inner.{windowSum}
-use Rattle.values.proofs.Values.{limitedWord-bound, phase-below}
+use Rattle.values.proofs.Values.{limitedWord-bound, unit-pos, unit-up, phase-below}
 
 -- ---- shifts
 
@@ -219,3 +221,14 @@ module _ (b : List ℤ) (a : Accepted b) (words : List ℤ) (l P : ℕ) where
       → near (pos (unit l) *ℤ x +ℤ pos e *ℤ y) (16384 * unit l) ≡ levelValue b words l P
   unfolding levelValue
   levelValue-split f g h = rw (f, g, h) (ap (λ z. near z (16384 * unit l)) (sym valueSum-split))
+
+  -- the same with the offset and the divisor in level 4's units
+  pub levelValue-raised : {x y : ℤ} {e : ℕ} → l ≤ 4 → x ≡ impulseSum b words l P → y ≡ differenceSum b words l P → e ≡ offsetAt b l P * 2 ^ (4 - l)
+      → near (pos (unit 4) *ℤ x +ℤ pos e *ℤ y) (16384 * unit 4) ≡ levelValue b words l P
+  levelValue-raised {x} {y} low f g h =
+      let u = 2 ^ (4 - l) in
+      let o = offsetAt b l P in
+      let raised : pos (unit l * u) *ℤ x +ℤ pos (o * u) *ℤ y ≡ pos u *ℤ (pos (unit l) *ℤ x +ℤ pos o *ℤ y) = simp linear (omega arith) in
+      let e : 16384 * (unit l * u) ≡ u * (16384 * unit l) = omega arith in
+      rw (unit-up l low, h)
+      (ap₂ near raised e ∙ near-scale (pos (unit l) *ℤ x +ℤ pos o *ℤ y) (16384 * unit l) (omega (arith, unit-pos l)) (pow-pos (4 - l)) ∙ levelValue-split f g refl)

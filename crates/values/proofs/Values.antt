@@ -1,5 +1,5 @@
 -- The laws of level values: how large they are, and that a value is linear in the words that it reads. Assumes nothing.
-use mathlib.Core.Path.{_≡_, ap₂, _∙_}
+use mathlib.Core.Path.{_≡_, ap, ap₂, _∙_}
 use mathlib.Core.List.{List}
 use Prim.Native.Nat.{ℕ, suc, _+_, _*_, _-_, _/_, _%_, _^_, _≤_, _<_}
 use native.Mathlib.Nat.{le-trans, mul-le-mul-right, mod-lt, div-lt-iff-lt-mul}
@@ -31,6 +31,11 @@ limitedWord-bound words l i = limit-bound (2 ^ (23 + l)) (wordAt words i)
 pub unit-pos : (l : ℕ) → 0 < unit l
 unfolding unit
 unit-pos l = pow-pos (28 + l)
+
+-- 2^(4 − l) turns a level's units into those of level 4
+pub unit-up : (l : ℕ) → l ≤ 4 → unit 4 ≡ unit l * 2 ^ (4 - l)
+unfolding unit
+unit-up l h = let e : 32 ≡ 28 + l + (4 - l) = omega arith in ap (λ k. 2 ^ k) e ∙ pow-add 2 (28 + l) (4 - l)
 
 pub offset-below : (b : List ℤ) (l P : ℕ) → offsetAt b l P < unit l
 unfolding offsetAt

@@ -10,7 +10,7 @@ ghost use Rattle.book.specs.Book.{sizesOf};
 ghost use Rattle.book.specs.Check.{bookNumber};
 ghost use Rattle.arith.specs.Limit.{limit};
 ghost use Rattle.values.specs.Values.{levelValue};
-ghost use Rattle.values.specs.Inner.{windowSum, restOf};
+ghost use Rattle.values.specs.Inner.{windowSum};
 
 // The sums of a level's words times impulses, and times differences.
 pub struct Sums {
@@ -124,36 +124,19 @@ pub fn level_bound(level: u32) -> i32
     }
 }
 
-// near((2^shift × impulses + offset × differences) / (2^14 × 2^shift)). The sum has up to 76 bits, so it is taken apart: the floor of
-// offset × differences / 2^shift, and whether that left a rest, which only says on which side of a half the number lies.
-pub fn mixed(impulses: i64, differences: i64, offset: u64, shift: u32) -> i64
-    requires { ⌜ (natAbs impulses ≤ 2 ^ 44) × (natAbs differences ≤ 2 ^ 45) × (offset < 2 ^ shift) × (28 ≤ shift) × (shift ≤ 32) ⌝ }
-    ensures { λ r. ⌜ r ≡ near (pos (2 ^ shift) *ℤ impulses +ℤ pos offset *ℤ differences) (16384 * 2 ^ shift) ⌝ }
+// near((2^32 × impulses + offset × differences) / (2^14 × 2^32)). The sum has up to 76 bits, so it is taken apart: its floor in 2^16, and
+// whether that left a rest, without which a half could not be told from what lies just above one.
+pub fn mixed(impulses: i64, differences: i64, offset: u64) -> i64
+    requires { ⌜ (natAbs impulses ≤ 2 ^ 44) × (natAbs differences ≤ 2 ^ 45) × (offset < 2 ^ 32) ⌝ }
+    ensures { λ r. ⌜ r ≡ near (pos (2 ^ 32) *ℤ impulses +ℤ pos offset *ℤ differences) (16384 * 2 ^ 32) ⌝ }
 {
     let e = offset as i64;
     let high = differences >> 16;
     let low = differences - high * 65536;
     let tail = e * low;
     let tail_high = tail >> 16;
-    let whole = e * high + tail_high;
-    let x = whole >> (shift - 16);
-    let rest = has_rest(whole, shift - 16, tail);
-    arith::near(2 * (impulses + x) + rest, 32768)
-}
-
-// 1 where 2^n does not divide `whole`, or 65536 does not divide `tail`, else 0.
-fn has_rest(whole: i64, n: u32, tail: i64) -> i64
-    requires { ⌜ n ≤ 16 ⌝ }
-    ensures { λ r. ⌜ r ≡ restOf whole n tail ⌝ }
-{
-    if tail % 65536 != 0 {
-        return 1;
-    }
-    let unit = 1i64 << n;
-    if whole % unit != 0 {
-        return 1;
-    }
-    0
+    let floor = impulses * 65536 + e * high + tail_high;
+    arith::near_rest(floor, tail % 65536 != 0, 536870912)
 }
 
 // The value of a level at a position. `words` are the level's words; the book has `phases` phases of `taps` taps.
@@ -180,7 +163,7 @@ pub fn level_value(
     let half = taps / 2;
     let first = p + 1;
     let s = window_sums(rows, gap, words, level, first, half, taps);
-    mixed(s.impulses, s.differences, offset, shift) as i32
+    mixed(s.impulses, s.differences, offset << (4 - level)) as i32
 }
 
 // Both sums, with no test of an index where the whole window lies inside the level.

@@ -19,7 +19,7 @@ use Rattle.book.proofs.Accepted.{Accepted, sizes-bounded}
 use Rattle.values.specs.Values.{limitedWord, unit, phaseAt, offsetAt, coefficient, valueSum, levelValue}
 use Rattle.values.specs.Inner.{windowSum}
 use Rattle.windows.specs.Inner.{rowSum, windowValue}
-use Rattle.values.proofs.Values.{unit-pos, phase-below}
+use Rattle.values.proofs.Values.{unit-pos, unit-up, phase-below}
 use Rattle.values.proofs.Split.{rowsFrom, impulseSum, differenceSum, impulseSum-bound, differenceSum-bound, levelValue-split}
 use Rattle.values.proofs.Windows.{windowWord, word-bound, inside-word}
 
@@ -128,10 +128,6 @@ module _ (b : List ℤ) (words window : List ℤ) (l : ℕ) (low : l ≤ 4) (bas
   abbrev P′ : ℕ
   P′ = positionOf b (distance * up)
 
-  unit-up : unit 4 ≡ unit l * up
-  unfolding unit
-  unit-up = let e : 32 ≡ 28 + l + (4 - l) = omega arith in ap (λ k. 2 ^ k) e ∙ pow-add 2 (28 + l) (4 - l)
-
   -- ---- P′, from P
 
   whole : P ≡ distance + base * unit l
@@ -146,13 +142,13 @@ module _ (b : List ℤ) (words window : List ℤ) (l : ℕ) (low : l ≤ 4) (bas
   rest-up : P′ % unit 4 ≡ P % unit l * up
   unfolding unit
   rest-up =
-      position-rest b (distance * up) ∙ ap (λ n. distance * up % n) unit-up ∙ scale-rest distance (unit l) (pow-pos (4 - l))
+      position-rest b (distance * up) ∙ ap (λ n. distance * up % n) (unit-up l low) ∙ scale-rest distance (unit l) (pow-pos (4 - l))
       ∙ ap (λ n. n * up) (sym distance-rest)
 
   word-up : P′ / unit 4 + base ≡ P / unit l + (sizesOf b .taps / 2 - 1)
   unfolding unit
   word-up =
-      let e : distance * up / 2 ^ 32 ≡ distance / unit l = ap (λ n. distance * up / n) unit-up ∙ mul-div-mul-right distance (unit l) (pow-pos (4 - l)) in
+      let e : distance * up / 2 ^ 32 ≡ distance / unit l = ap (λ n. distance * up / n) (unit-up l low) ∙ mul-div-mul-right distance (unit l) (pow-pos (4 - l)) in
       omega (arith, position-word b (distance * up), distance-word)
 
   -- how far P lies behind the beginning
@@ -160,7 +156,7 @@ module _ (b : List ℤ) (words window : List ℤ) (l : ℕ) (low : l ≤ 4) (bas
   unfolding unit
   distance-below k h =
       let far : suc distance * up ≤ suc k * unit l * up = mul-le-mul-right up (omega arith) in
-      omega (arith, far, ap (λ n. suc k * n) unit-up, pow-pos (4 - l))
+      omega (arith, far, ap (λ n. suc k * n) (unit-up l low), pow-pos (4 - l))
 
   -- ---- the coefficients
 
@@ -169,17 +165,17 @@ module _ (b : List ℤ) (words window : List ℤ) (l : ℕ) (low : l ≤ 4) (bas
 
   phase-same : phaseAt b 4 P′ ≡ phaseAt b l P
   unfolding phaseAt
-  phase-same = ap₂ (λ n m. n / m) scaled-up unit-up ∙ mul-div-mul-right (P % unit l * sizesOf b .phases) (unit l) (pow-pos (4 - l))
+  phase-same = ap₂ (λ n m. n / m) scaled-up (unit-up l low) ∙ mul-div-mul-right (P % unit l * sizesOf b .phases) (unit l) (pow-pos (4 - l))
 
   offset-up : offsetAt b 4 P′ ≡ offsetAt b l P * up
   unfolding offsetAt
-  offset-up = ap₂ (λ n m. n % m) scaled-up unit-up ∙ scale-rest (P % unit l * sizesOf b .phases) (unit l) (pow-pos (4 - l))
+  offset-up = ap₂ (λ n m. n % m) scaled-up (unit-up l low) ∙ scale-rest (P % unit l * sizesOf b .phases) (unit l) (pow-pos (4 - l))
 
   coefficient-up : (k : ℕ) → coefficient b 4 P′ k ≡ pos up *ℤ coefficient b l P k
   unfolding coefficient
   coefficient-up k =
       let q = phaseAt b l P in
-      ap₂ (λ u p. pos u *ℤ impulse b p k +ℤ pos (offsetAt b 4 P′) *ℤ difference b p k) unit-up phase-same
+      ap₂ (λ u p. pos u *ℤ impulse b p k +ℤ pos (offsetAt b 4 P′) *ℤ difference b p k) (unit-up l low) phase-same
       ∙ ap (λ e. pos (unit l * up) *ℤ impulse b q k +ℤ pos e *ℤ difference b q k) offset-up
       ∙ apart (unit l) (offsetAt b l P) (impulse b q k) (difference b q k)
     where
@@ -216,5 +212,5 @@ module _ (b : List ℤ) (words window : List ℤ) (l : ℕ) (low : l ≤ 4) (bas
     pub windowValue-is : windowValue b window (distance * up) ≡ levelValue b words l P
     unfolding windowValue levelValue
     windowValue-is =
-        let e : 16384 * unit 4 ≡ up * (16384 * unit l) = omega (arith, unit-up) in
-        ap₂ near valueSum-up e ∙ near-scale (valueSum b (limitedWord words l) l P) (16384 * unit l) (pow-pos (4 - l))
+        let e : 16384 * unit 4 ≡ up * (16384 * unit l) = omega (arith, unit-up l low) in
+        ap₂ near valueSum-up e ∙ near-scale (valueSum b (limitedWord words l) l P) (16384 * unit l) (omega (arith, unit-pos l)) (pow-pos (4 - l))

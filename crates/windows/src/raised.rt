@@ -115,7 +115,7 @@ fn row_value(s: RowSums, table: &[i64], totals: &[i64], taps: usize, p: Place) -
     let words = totals[first + taps] - totals[first];
     let impulses = s.impulses - words - table[k];
     let differences = s.next - s.impulses - table[832 + k];
-    mixed(impulses, differences, p.offset, 32)
+    mixed(impulses, differences, p.offset)
 }
 
 // A run's values, an even number of them, four at a time, written to a line of points, newest first. The window begins at `start`, and `up` shifts

@@ -55,7 +55,7 @@ fn tap_value(book: &[i32], phases: usize, taps: usize, window: &[i64], place: u6
     let rows = &book[row..];
     let words = &window[first..];
     let s = row_sums(rows, phases * taps, words, taps);
-    mixed(s.impulses, s.differences, scaled % 4294967296, 32)
+    mixed(s.impulses, s.differences, scaled % 4294967296)
 }
 
 // The same: the most common number of taps is a constant, so that its loop is unrolled.

@@ -1,14 +1,17 @@
-//! What the programs `level_facts`, `player_facts`, `test_drive` and `drive_report`
-//! must print: the renderer's answers to the calls that they make. Each module is in
-//! the order of its program and with its names, so that the two can be read side by
-//! side; the texts of `test_drive` and `drive_report` are the renderer's own.
+//! What the programs `level_facts`, `rounding_facts`, `player_facts`, `long_drive`,
+//! `test_drive` and `drive_report` must print: the renderer's answers to the calls that
+//! they make. Each module is in the order of its program and with its names, so that
+//! the two can be read side by side; the texts of `test_drive` and `drive_report` are
+//! the renderer's own.
 //!
 //! `recorded --facts crates` writes the texts; the test `recorded` holds the files
 //! to what is made here.
 
 mod damage;
 pub mod levels;
+pub mod long_drive;
 pub mod player;
+pub mod rounding;
 
 use crate::EDITION;
 use renderer::programs::{drive_report, hum_program};
@@ -30,7 +33,9 @@ fn changed<const L: usize>(mut words: [i32; L], at: usize, word: i32) -> [i32; L
 pub fn files() -> Vec<(String, String)> {
     let texts = [
         ("level_facts", levels::text()),
+        ("rounding_facts", rounding::text()),
         ("player_facts", player::text()),
+        ("long_drive", long_drive::text()),
         ("test_drive", hum_program(EDITION)),
         ("drive_report", drive_report(EDITION, DRIVE)),
     ];

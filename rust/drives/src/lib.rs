@@ -33,4 +33,4 @@ use renderer::Edition;
 
 /// The edition of the product: document 01 with the requests of document 02 up to
 /// this one.
-pub const EDITION: Edition = Edition::F;
+pub const EDITION: Edition = Edition::G;

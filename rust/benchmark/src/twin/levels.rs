@@ -2,6 +2,7 @@
 
 use super::book::Book;
 use super::halving::{Taps, MOST_REACH};
+use super::rounding::near;
 
 /// The words of a store for S samples and top level T, its header among them; 0
 /// where one of them is outside its range.
@@ -117,7 +118,7 @@ fn next_level(taps: &Taps, below: &[i32], next: &mut [i32]) {
     for (at, block) in next.chunks_mut(BLOCK).enumerate() {
         let window = &mut words[..2 * block.len() - 1 + 2 * reach];
         widen(below, 2 * BLOCK * at, reach, window);
-        taps.halve(window, block, |sum| ((sum + 8192) >> 14) as i32);
+        taps.halve(window, block, |sum| near(sum, 14) as i32);
     }
 }
 

@@ -15,6 +15,7 @@ mod control;
 mod halving;
 mod levels;
 mod play;
+mod rounding;
 mod values;
 mod voice;
 

@@ -4,6 +4,7 @@ use super::book::Book;
 use super::control::{Control, Plan, BLOCK, RUN};
 use super::halving::Taps;
 use super::levels::Levels;
+use super::rounding::{near, near_by};
 use super::values::Phases;
 use super::voice::{Voice, POINTS};
 
@@ -110,11 +111,11 @@ fn mix(old: &mut [i64], new: &[i64], step: u32, fade: u32) {
     let fade = i64::from(fade);
     for ((old, new), i) in old.iter_mut().zip(new).zip(i64::from(step)..) {
         let sum = (fade - i) * *old + i * new;
-        *old = (2 * sum + fade).div_euclid(2 * fade);
+        *old = near_by(sum, fade);
     }
 }
 
 /// An output from its sum: near(sum / 2^22), limited.
 fn output(sum: i64) -> i16 {
-    ((sum + (1 << 21)) >> 22).clamp(-32768, 32767) as i16
+    near(sum, 22).clamp(-32768, 32767) as i16
 }

@@ -2,6 +2,7 @@
 
 use super::book::Book;
 use super::control::RUN;
+use super::rounding::near_with_rest;
 
 /// Words that a run can read: a point of a level's own rates advances less than
 /// a word.
@@ -76,7 +77,7 @@ impl<'a, const N: usize> Phases<'a, N> {
 }
 
 /// near((base + slope × offset / 2^32) / 2^14). The product has up to 77 bits;
-/// only its floor is needed, since base is whole and the result a floor.
+/// its floor is enough, and whether it has anything above that.
 #[inline(always)]
 fn mixed<const N: usize>(
     words: &[i64; N],
@@ -84,14 +85,14 @@ fn mixed<const N: usize>(
     differences: &[i32; N],
     offset: u64,
 ) -> i64 {
-    let mut base = 8192;
+    let mut base = 0;
     let mut slope = 0;
     for k in 0..N {
         base += words[k] * i64::from(impulses[N - 1 - k]);
         slope += words[k] * i64::from(differences[N - 1 - k]);
     }
-    let rise = (i128::from(slope) * i128::from(offset)) >> 32;
-    (base + rise as i64) >> 14
+    let rise = i128::from(slope) * i128::from(offset);
+    near_with_rest(base + (rise >> 32) as i64, || rise as u32 != 0, 14)
 }
 
 /// Copies the words that a run reads: widened, limited, and 0 outside the

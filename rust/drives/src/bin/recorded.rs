@@ -5,8 +5,8 @@
 //! and its expected output, into its folder; see `drives::rattle`.
 //!
 //! recorded --facts FOLDER: writes the expected outputs of the programs `level_facts`,
-//! `player_facts`, `test_drive` and `drive_report` into their folders in this one; see
-//! `drives::facts`.
+//! `rounding_facts`, `player_facts`, `long_drive`, `test_drive` and `drive_report` into
+//! their folders in this one; see `drives::facts`.
 
 use drives::recorded::small_drive;
 use drives::{facts, rattle};

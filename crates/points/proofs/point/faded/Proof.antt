@@ -52,19 +52,19 @@ module _ (s : tie.Start) where
   mix-fits = abs-fits w64 mix (omega (arith, mix-size))
 
 -- the result
-module _ (c : tie.After-near) where
-  result-is : c .near .result ≡ near (mix (c .before)) (c .before .args .fade)
+module _ (c : tie.After-near-by) where
+  result-is : c .near-by .result ≡ near (mix (c .before)) (c .before .args .fade)
   result-is =
       let s = c .before in
-      simp (reads, rest-low s, step-low s, fade-low s, s .fits .old, s .fits .new, old-fits s, new-fits s, mix-fits s) at (c .near .ensures)
+      simp (reads, rest-low s, step-low s, fade-low s, s .fits .old, s .fits .new, old-fits s, new-fits s, mix-fits s) at (c .near-by .ensures)
 
-  result-wide : SFits w64 (c .near .result)
-  result-wide = record { sfits = c .near .ok }
+  result-wide : SFits w64 (c .near-by .result)
+  result-wide = record { sfits = c .near-by .ok }
 
-  result-fits : SFits w32 (c .near .result)
+  result-fits : SFits w32 (c .near-by .result)
   result-fits =
       let s = c .before in
-      abs-fits w32 (c .near .result) (rw result-is (omega (arith, near-bound (mix s) (s .pre .3) (2 ^ 29) (mix-size s))))
+      abs-fits w32 (c .near-by .result) (rw result-is (omega (arith, near-bound (mix s) (s .pre .3) (2 ^ 29) (mix-size s))))
 
 sub-sum : tie.Need-sub-sum
 sub-sum c = search needs
@@ -90,11 +90,11 @@ mul-sum-2 c = simp (reads, step-low c, c .fits .new) (new-fits c)
 add-sum : tie.Need-add-sum
 add-sum c = simp (reads, rest-low c, step-low c, c .fits .old, c .fits .new, old-fits c, new-fits c) (mix-fits c)
 
-cast-near : tie.Need-cast-near
-cast-near c = search needs
+cast-near-by : tie.Need-cast-near-by
+cast-near-by c = search needs
 
-near-requires : tie.Need-near-requires
-near-requires c κs =
+near-by-requires : tie.Need-near-by-requires
+near-by-requires c κs =
     simp (reads, rest-low c, step-low c, fade-low c, c .fits .old, c .fits .new, old-fits c, new-fits c, mix-fits c)
     (omega (arith, mix-size c), (simp linear (omega arith), simp linear (omega arith)))
 
@@ -116,7 +116,7 @@ faded-spec =
     cast-sum-4
     mul-sum-2
     add-sum
-    cast-near
-    near-requires
+    cast-near-by
+    near-by-requires
     cast-result
     returns)

@@ -3,7 +3,7 @@
 use mathlib.Core.Path.{_≡_, refl, ap, ap₂, _∙_}
 use mathlib.Core.List.{List}
 use Prim.Native.Nat.{ℕ, suc, _+_, _*_, _-_, _/_, _%_, _^_, _≤_, _<_}
-use native.Mathlib.Nat.{mul-le-mul, mul-le-mul-right, mod-lt, div-lt-iff-lt-mul}
+use native.Mathlib.Nat.{mul-le-mul, mul-le-mul-right, mul-lt-mul-of-pos-right, mod-lt, mod-le, mod-eq-of-lt, div-lt-iff-lt-mul}
 use native.Mathlib.Omega.{arith}
 use borrow.Author.Needs.{needs}
 use lib.IntN.{ℤ, natAbs}
@@ -19,8 +19,8 @@ use Rattle.arith.proofs.Lists.{part-length}
 use Rattle.book.specs.Book.{sizesOf}
 use Rattle.book.proofs.Accepted.{Accepted, accepted, sizes-bounded, sizes-room}
 use Rattle.values.specs.Values.{unit, phaseAt, offsetAt, levelValue}
-use Rattle.values.proofs.Values.{unit-pos, phase-below, offset-below, levelValue-bound}
-use Rattle.values.proofs.Split.{shift-rest, rowsFrom, row-small, impulseSum, differenceSum, impulseSum-bound, differenceSum-bound, levelValue-split}
+use Rattle.values.proofs.Values.{unit-pos, unit-up, phase-below, offset-below, levelValue-bound}
+use Rattle.values.proofs.Split.{shift-rest, rowsFrom, row-small, impulseSum, differenceSum, impulseSum-bound, differenceSum-bound, levelValue-raised}
 use Rattle.values.proofs.value.level_value.Statement.{statement}
 use Rattle.values.proofs.value.level_value.Tie as tie
 
@@ -97,6 +97,20 @@ module _ (s : tie.Start) where
   unfolding unit
   offset-low = omega (arith, offset-is, offset-below book level position)
 
+  -- the offset in 2^-32
+  abbrev raised : ℕ
+  raised = offset * 2 ^ (4 - level) % 2 ^ 64
+
+  product-low : offset * 2 ^ (4 - level) < 2 ^ 32
+  unfolding unit
+  product-low = omega (arith, mul-lt-mul-of-pos-right offset-low (pow-pos (4 - level)), unit-up level (s .pre .1 .0))
+
+  raised-is : raised ≡ offsetAt book level position * 2 ^ (4 - level)
+  raised-is = mod-eq-of-lt (omega (arith, product-low)) ∙ ap (λ n. n * 2 ^ (4 - level)) offset-is
+
+  raised-low : raised < 2 ^ 32
+  raised-low = omega (arith, product-low, mod-le (offset * 2 ^ (4 - level)) (2 ^ 64))
+
   -- the phase's words lie in the book, and so do its differences
   room : (phase * taps + taps ≤ phases * taps) × (5 + phases * taps + phases * taps ≤ length book) × (phases * taps ≤ 3072)
   room =
@@ -153,8 +167,8 @@ module _ (c : tie.After-mixed) where
   result-is : c .mixed .result ≡ levelValue (book (s w)) (words (s w)) (level (s w)) (position (s w))
   unfolding unit
   result-is =
-      let value = levelValue-split (book (s w)) (valid (s w)) (words (s w)) (level (s w)) (position (s w)) in
-      (simp (reads, impulses-fit w, differences-fit w) at (c .mixed .ensures)) ∙ value (impulses-are w) (differences-are w) (offset-is (s w))
+      let value = levelValue-raised (book (s w)) (valid (s w)) (words (s w)) (level (s w)) (position (s w)) in
+      (simp (reads, impulses-fit w, differences-fit w) at (c .mixed .ensures)) ∙ value (s w .pre .1 .0) (impulses-are w) (differences-are w) (raised-is (s w))
 
   result-wide : SFits w64 (c .mixed .result)
   result-wide = record { sfits = c .mixed .ok }
@@ -239,11 +253,20 @@ window-sums-requires c κs =
       rows-small s,
     )
 
+sub-mixed : tie.Need-sub-mixed
+sub-mixed c = search needs
+
+cast-mixed : tie.Need-cast-mixed
+cast-mixed c = search needs
+
+shl-mixed : tie.Need-shl-mixed
+shl-mixed c = search needs
+
 mixed-requires : tie.Need-mixed-requires
 mixed-requires c κs =
     let w = c .before .before in
     simp (reads, impulses-fit w, differences-fit w)
-    (impulses-small w, differences-small w, offset-low (s w), omega arith, omega arith)
+    (impulses-small w, differences-small w, raised-low (s w))
 
 cast-result : tie.Need-cast-result
 cast-result c = simp (reads, result-wide c) (result-fits c)
@@ -276,6 +299,9 @@ level-value-spec =
     mul-gap
     add-first
     window-sums-requires
+    sub-mixed
+    cast-mixed
+    shl-mixed
     mixed-requires
     cast-result
     returns)

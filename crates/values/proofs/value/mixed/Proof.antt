@@ -1,21 +1,20 @@
 -- `values::value::mixed` meets its contract: every value on the way fits 64 bits, so `values` reads it back from its bits, and
 -- `near-mixed` says that the floor and the rest round as the sum does. Assumes nothing.
 use mathlib.Core.Path.{_≡_, sym, ap, _∙_}
-use Prim.Native.Nat.{ℕ, _-_, _^_, _≤_}
+use mathlib.Core.Bool.{not, cond}
+use Prim.Native.Nat.{ℕ, _^_, _≤_}
 use native.Mathlib.Omega.{arith}
-use borrow.Author.Needs.{needs}
 use lib.IntN.{ℤ, pos, natAbs, _+ℤ_, _*ℤ_}
-use lib.Pow.{pow-mono}
 use lib.Signed.{ltZ-yes, leZ-yes}
 use mir.Syntax.{w64}
 use mir.Val.{SFits, toZ, ofZ}
 use mir.ValLaws.{toZ-ofZ, toZ-pos}
 use Rattle.arith.specs.Floor.{floorDiv, near}
 use Rattle.arith.proofs.Linear.{linear}
-use Rattle.arith.proofs.Integers.{abs-≤, abs-fits}
-use Rattle.arith.proofs.Floor.{floor-fits}
-use Rattle.values.specs.Inner.{restOf}
-use Rattle.values.proofs.Mix.{highOf, lowOf, tailOf, wholeOf, low-bound, high-bound, high-product-bound, tail-bound, whole-bound, shifted-bound, rest-bound, near-mixed}
+use Rattle.arith.proofs.Integers.{abs-fits}
+use Rattle.arith.proofs.Floor.{floor-fits, quot-fits}
+use Rattle.arith.proofs.Rest.{rem-bits}
+use Rattle.values.proofs.Mix.{highOf, lowOf, tailOf, headOf, low-bound, high-bound, high-product-bound, tail-bound, head-bound, floor-small, near-mixed}
 use Rattle.values.proofs.value.mixed.Statement.{statement}
 use Rattle.values.proofs.value.mixed.Tie as tie
 
@@ -34,12 +33,6 @@ module _ (c : tie.Start) where
   abbrev e : ℕ
   e = c .args .offset
 
-  abbrev n : ℕ
-  n = c .args .shift - 16
-
-  abbrev x : ℤ
-  x = floorDiv (wholeOf e d) (2 ^ n)
-
   read-i : toZ w64 (ofZ w64 i) ≡ i
   read-i = read i (c .fits .impulses)
 
@@ -47,7 +40,7 @@ module _ (c : tie.Start) where
   read-d = read d (c .fits .differences)
 
   e-bound : e ≤ 2 ^ 32
-  e-bound = omega (arith, pow-mono (c .pre .4))
+  e-bound = omega (arith, c .pre .2)
 
   read-e : toZ w64 e ≡ pos e
   read-e = toZ-pos w64 e (omega (arith, e-bound))
@@ -56,7 +49,7 @@ module _ (c : tie.Start) where
   read-high = read (highOf d) (floor-fits w64 d 65536 (c .fits .differences))
 
   high-back-fits : SFits w64 (highOf d *ℤ pos 65536)
-  high-back-fits = simp linear (omega (arith, simp linear at (high-bound e d e-bound (c .pre .1))))
+  high-back-fits = simp linear (omega (arith, simp linear at (high-bound i e d (c .pre .0) e-bound (c .pre .1))))
 
   read-high-back : toZ w64 (ofZ w64 (highOf d *ℤ pos 65536)) ≡ highOf d *ℤ pos 65536
   read-high-back = read (highOf d *ℤ pos 65536) high-back-fits
@@ -68,7 +61,7 @@ module _ (c : tie.Start) where
   read-low = read (lowOf d) low-fits
 
   tail-fits : SFits w64 (tailOf e d)
-  tail-fits = abs-fits w64 (tailOf e d) (omega (arith, tail-bound e d e-bound (c .pre .1)))
+  tail-fits = abs-fits w64 (tailOf e d) (omega (arith, tail-bound i e d (c .pre .0) e-bound (c .pre .1)))
 
   read-tail : toZ w64 (ofZ w64 (tailOf e d)) ≡ tailOf e d
   read-tail = read (tailOf e d) tail-fits
@@ -76,37 +69,37 @@ module _ (c : tie.Start) where
   read-tail-high : toZ w64 (ofZ w64 (floorDiv (tailOf e d) 65536)) ≡ floorDiv (tailOf e d) 65536
   read-tail-high = read (floorDiv (tailOf e d) 65536) (floor-fits w64 (tailOf e d) 65536 tail-fits)
 
+  whole-fits : SFits w64 (i *ℤ pos 65536)
+  whole-fits = simp linear (omega (arith, simp linear at (c .pre .0)))
+
+  read-whole : toZ w64 (ofZ w64 (i *ℤ pos 65536)) ≡ i *ℤ pos 65536
+  read-whole = read (i *ℤ pos 65536) whole-fits
+
   high-product-fits : SFits w64 (pos e *ℤ highOf d)
-  high-product-fits = abs-fits w64 (pos e *ℤ highOf d) (omega (arith, high-product-bound e d e-bound (c .pre .1)))
+  high-product-fits = abs-fits w64 (pos e *ℤ highOf d) (omega (arith, high-product-bound i e d (c .pre .0) e-bound (c .pre .1)))
 
   read-high-product : toZ w64 (ofZ w64 (pos e *ℤ highOf d)) ≡ pos e *ℤ highOf d
   read-high-product = read (pos e *ℤ highOf d) high-product-fits
 
-  whole-fits : SFits w64 (wholeOf e d)
-  whole-fits = abs-fits w64 (wholeOf e d) (omega (arith, whole-bound e d e-bound (c .pre .1)))
+  head-fits : SFits w64 (headOf i e d)
+  head-fits = abs-fits w64 (headOf i e d) (omega (arith, head-bound i e d (c .pre .0) e-bound (c .pre .1)))
 
-  read-whole : toZ w64 (ofZ w64 (wholeOf e d)) ≡ wholeOf e d
-  read-whole = read (wholeOf e d) whole-fits
+  read-head : toZ w64 (ofZ w64 (headOf i e d)) ≡ headOf i e d
+  read-head = read (headOf i e d) head-fits
 
-  read-x : toZ w64 (ofZ w64 x) ≡ x
-  read-x = read x (floor-fits w64 (wholeOf e d) (2 ^ n) whole-fits)
+  abbrev floor : ℤ
+  floor = headOf i e d +ℤ floorDiv (tailOf e d) 65536
 
-  x-bound : natAbs x ≤ 2 ^ 50
-  x-bound = shifted-bound e d e-bound (c .pre .1) n (omega arith)
+  floor-is-small : natAbs floor ≤ 2 ^ 62
+  floor-is-small = floor-small i e d (c .pre .0) e-bound (c .pre .1)
 
-  sum-fits : SFits w64 (i +ℤ x)
-  sum-fits = simp linear (omega (arith, simp linear at x-bound, simp linear at (c .pre .0)))
+  floor-is-fit : SFits w64 floor
+  floor-is-fit = abs-fits w64 floor (omega (arith, floor-is-small))
 
-  read-sum : toZ w64 (ofZ w64 (i +ℤ x)) ≡ i +ℤ x
-  read-sum = read (i +ℤ x) sum-fits
+  read-floor : toZ w64 (ofZ w64 floor) ≡ floor
+  read-floor = read floor floor-is-fit
 
-  twice-fits : SFits w64 (pos 2 *ℤ (i +ℤ x))
-  twice-fits = simp linear (omega (arith, simp linear at x-bound, simp linear at (c .pre .0)))
-
-  read-twice : toZ w64 (ofZ w64 (pos 2 *ℤ (i +ℤ x))) ≡ pos 2 *ℤ (i +ℤ x)
-  read-twice = read (pos 2 *ℤ (i +ℤ x)) twice-fits
-
-ruleset values = (read-i, read-d, read-e, read-high, read-high-back, read-low, read-tail, read-tail-high, read-high-product, read-whole, read-x, read-sum, read-twice)
+ruleset values = (read-i, read-d, read-e, read-high, read-high-back, read-low, read-tail, read-tail-high, read-whole, read-high-product, read-head, read-floor)
 
 cast-e : tie.Need-cast-e
 cast-e c = simp linear (omega (arith, e-bound c))
@@ -123,79 +116,37 @@ mul-tail : tie.Need-mul-tail
 unfolding floorDiv
 mul-tail c = simp values (tail-fits c)
 
-mul-whole : tie.Need-mul-whole
+mul-floor : tie.Need-mul-floor
+mul-floor c = simp values (whole-fits c)
+
+mul-floor-2 : tie.Need-mul-floor-2
 unfolding floorDiv
-mul-whole c = simp values (high-product-fits c)
+mul-floor-2 c = simp values (high-product-fits c)
 
-add-whole : tie.Need-add-whole
+add-floor : tie.Need-add-floor
 unfolding floorDiv
-add-whole c = simp values (whole-fits c)
+add-floor c = simp values (head-fits c)
 
-sub-x : tie.Need-sub-x
-sub-x c = search needs
-
-cast-x : tie.Need-cast-x
-cast-x c = search needs
-
-shr-x : tie.Need-shr-x
-shr-x c = search needs
-
-sub-has-rest : tie.Need-sub-has-rest
-sub-has-rest c = search needs
-
-has-rest-requires : tie.Need-has-rest-requires
-has-rest-requires c κs = search needs
-
--- ---- with the rest
-
-module _ (c : tie.After-has-rest) where
-  abbrev total : ℤ
-  total = pos 2 *ℤ (i (c .before) +ℤ x (c .before)) +ℤ c .has-rest .result
-
-  rest-is : c .has-rest .result ≡ restOf (wholeOf (e (c .before)) (d (c .before))) (n (c .before)) (tailOf (e (c .before)) (d (c .before)))
-  unfolding floorDiv
-  rest-is = simp values at (c .has-rest .ensures)
-
-  read-rest : toZ w64 (ofZ w64 (c .has-rest .result)) ≡ c .has-rest .result
-  read-rest = read (c .has-rest .result) (record { sfits = c .has-rest .ok })
-
-  rest-small : natAbs (c .has-rest .result) ≤ 1
-  rest-small = rw rest-is (rest-bound (wholeOf (e (c .before)) (d (c .before))) (n (c .before)) (tailOf (e (c .before)) (d (c .before))))
-
-  total-bound : natAbs total ≤ 2 ^ 61
-  total-bound = abs-≤ total (simp linear (omega (arith, simp linear at (x-bound (c .before)), simp linear at rest-small, simp linear at (c .before .pre .0))))
-
-  total-fits : SFits w64 total
-  total-fits = abs-fits w64 total (omega (arith, total-bound))
-
-  read-total : toZ w64 (ofZ w64 total) ≡ total
-  read-total = read total total-fits
-
-add-near : tie.Need-add-near
+add-floor-2 : tie.Need-add-floor-2
 unfolding floorDiv
-add-near c = simp values (sum-fits (c .before))
+add-floor-2 c = simp values (floor-is-fit c)
 
-mul-near : tie.Need-mul-near
+rem-near-rest : tie.Need-rem-near-rest
 unfolding floorDiv
-mul-near c = simp values (twice-fits (c .before))
+rem-near-rest c = (omega arith, simp values (quot-fits w64 (tailOf (e c) (d c)) (ltZ-yes tt) (tail-fits c)))
 
-add-near-2 : tie.Need-add-near-2
+near-rest-requires : tie.Need-near-rest-requires
 unfolding floorDiv
-add-near-2 c = simp (values, read-rest) (total-fits c)
-
-near-requires : tie.Need-near-requires
-unfolding floorDiv
-near-requires c κs = simp (values, read-rest, read-total) (total-bound c, (ltZ-yes tt, leZ-yes tt))
+near-rest-requires c κs = simp values (floor-is-small c, (ltZ-yes tt, leZ-yes tt))
 
 returns : tie.Need-returns
 unfolding floorDiv
 returns c =
-    let b = c .before in
-    let s = b .before in
-    read (c .near .result) (record { sfits = c .near .ok })
-    ∙ (simp (values, read-rest, read-total) at (c .near .ensures))
-    ∙ ap (λ (r : ℤ). near (pos 2 *ℤ (i s +ℤ x s) +ℤ r) 32768) (rest-is b)
-    ∙ sym (near-mixed (i s) (e s) (d s) (s .args .shift) (omega arith))
+    let s = c .before in
+    read (c .near-rest .result) (record { sfits = c .near-rest .ok })
+    ∙ (simp values at (c .near-rest .ensures))
+    ∙ ap (λ t. near (pos 2 *ℤ floor s +ℤ cond (not t) (pos 1) (pos 0)) (2 ^ 31)) (rem-bits w64 (tailOf (e s) (d s)) (pos 65536) (tail-fits s))
+    ∙ sym (near-mixed (i s) (e s) (d s))
 
 pub mixed-spec : {M : Type 1} → statement M
 mixed-spec =
@@ -205,15 +156,10 @@ mixed-spec =
     mul-low
     sub-low
     mul-tail
-    mul-whole
-    add-whole
-    sub-x
-    cast-x
-    shr-x
-    sub-has-rest
-    has-rest-requires
-    add-near
-    mul-near
-    add-near-2
-    near-requires
+    mul-floor
+    mul-floor-2
+    add-floor
+    add-floor-2
+    rem-near-rest
+    near-rest-requires
     returns)

@@ -154,7 +154,7 @@ mixed-requires : tie.Need-mixed-requires
 unfolding impulsePart differencePart
 mixed-requires c κs =
     let s = c .before .before .before .before .before .before .before .before .before in
-    simp values (s .pre .impulse-part, s .pre .difference-part, omega (arith, s .pre .offset-low), omega arith, omega arith)
+    simp values (s .pre .impulse-part, s .pre .difference-part, omega (arith, s .pre .offset-low))
 
 returns : tie.Need-returns
 unfolding rowValue impulsePart differencePart

@@ -185,7 +185,7 @@ row-sums-requires c κs =
 mixed-requires : tie.Need-mixed-requires
 mixed-requires c κs =
     let r = c .before .before in
-    simp (reads, impulses-fit r, differences-fit r) (impulses-small r, differences-small r, omega arith, omega arith, omega arith)
+    simp (reads, impulses-fit r, differences-fit r) (impulses-small r, differences-small r, omega arith)
 
 returns : tie.Need-returns
 returns c =
