@@ -34,3 +34,7 @@ use renderer::Edition;
 /// The edition of the product: document 01 with the requests of document 02 up to
 /// this one.
 pub const EDITION: Edition = Edition::G;
+
+/// The edition before request (g): halves are rounded up. What it gives differently
+/// shows that a tie was met.
+pub const HALVES_UP: Edition = Edition::F;

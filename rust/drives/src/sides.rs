@@ -6,8 +6,8 @@
 use crate::call::Call;
 use crate::record::{voice_of, word_name, words_of, Words, TOP};
 use crate::stores::store_number;
-use crate::tally::{Kind, Tally};
-use crate::EDITION;
+use crate::tally::{differing, Kind, Tally};
+use crate::{EDITION, HALVES_UP};
 use renderer::book::book_number;
 use renderer::levels;
 use renderer::voice::{open, Card, Lent};
@@ -182,6 +182,9 @@ impl Sides {
             0 => self.store_words(samples.len() as u64, top)?,
             _ => 0,
         };
+        let mut halves_up: Vec<i32> = store_pattern(length).collect();
+        levels::build(HALVES_UP, book, samples, top.into(), &mut halves_up);
+        self.tally.ties.words += differing(&expected, &halves_up);
         let left = store_pattern(length)
             .skip(written)
             .eq(store.inner()[written..].iter().copied());
@@ -235,7 +238,11 @@ impl Sides {
             self.tally.note_samples(&expected);
             if count > 0 {
                 self.tally.note_band(&given, &next);
-                self.tally.note_multiplies(lent.book, count, multiplies);
+                let fades = self.tally.note_multiplies(lent.book, count, multiplies);
+                let mut halves_up = vec![0; count];
+                let up = call.rendered_at(HALVES_UP, &given, lent, &mut halves_up);
+                let ties = (&up.voice, &halves_up[..]);
+                self.tally.note_ties((&next, &expected), ties, fades);
             }
         } else {
             same("multiplies of a refusal", 0, multiplies)?;

@@ -135,6 +135,34 @@ impl Multiplies {
     }
 }
 
+/// How many of the words of two equally long slices differ.
+pub fn differing<T: PartialEq>(words: &[T], others: &[T]) -> u64 {
+    let pairs = words.iter().zip(others);
+    pairs.filter(|(word, other)| word != other).count() as u64
+}
+
+/// Numbers that would be others if halves were rounded up.
+#[derive(Clone, Copy, Debug, Default)]
+pub struct Ties {
+    /// Built store words.
+    pub words: u64,
+    /// Points of voices after a play without fades.
+    pub values: u64,
+    /// Points of voices after a play with fades.
+    pub faded: u64,
+    /// Samples.
+    pub samples: u64,
+}
+
+impl Ties {
+    fn add(&mut self, other: &Ties) {
+        self.words += other.words;
+        self.values += other.values;
+        self.faded += other.faded;
+        self.samples += other.samples;
+    }
+}
+
 /// Counts of a run.
 #[derive(Clone, Debug)]
 pub struct Tally {
@@ -143,6 +171,8 @@ pub struct Tally {
     pub bands: [Band; 4],
     /// Plays by their multiply count.
     pub multiplies: Multiplies,
+    /// Numbers that a tie decides.
+    pub ties: Ties,
     /// Of play's 13s, those for a T above 4. The others are for a level above T.
     pub tops_above_4: u64,
     /// Samples compared.
@@ -161,6 +191,7 @@ impl Default for Tally {
             counts: [[0; NUMBERS]; KINDS.len()],
             bands: [Band::default(); 4],
             multiplies: Multiplies::default(),
+            ties: Ties::default(),
             tops_above_4: 0,
             samples: 0,
             telling_samples: 0,
@@ -198,8 +229,9 @@ impl Tally {
         }
     }
 
-    /// Counts an accepted play of some outputs by its multiply count.
-    pub fn note_multiplies(&mut self, book: &[i32], outputs: usize, multiplies: u64) {
+    /// Counts an accepted play of some outputs by its multiply count, and says whether
+    /// it had fades.
+    pub fn note_multiplies(&mut self, book: &[i32], outputs: usize, multiplies: u64) -> bool {
         let (value, outputs) = (2 * book[0] as u64, outputs as u64);
         let least = outputs * (2 * value + 2 * book[3] as u64 + 1);
         // Level values beside those of points without a fade.
@@ -208,6 +240,18 @@ impl Tally {
         self.multiplies.most += u64::from(more == 2 * outputs);
         self.multiplies.between += u64::from(0 < more && more < 2 * outputs);
         self.multiplies.odd += more % 2;
+        more > 0
+    }
+
+    /// Counts the points and samples of an accepted play that are not those of halves
+    /// rounded up, by whether it had fades.
+    pub fn note_ties(&mut self, play: (&Voice, &[i16]), halves_up: (&Voice, &[i16]), fades: bool) {
+        let points = differing(&play.0.history, &halves_up.0.history);
+        match fades {
+            true => self.ties.faded += points,
+            false => self.ties.values += points,
+        }
+        self.ties.samples += differing(play.1, halves_up.1);
     }
 
     /// How often a call gave a number.
@@ -226,6 +270,7 @@ impl Tally {
             band.add(more);
         }
         self.multiplies.add(&other.multiplies);
+        self.ties.add(&other.ties);
         self.tops_above_4 += other.tops_above_4;
         self.samples += other.samples;
         self.telling_samples += other.telling_samples;
@@ -248,8 +293,8 @@ impl Tally {
         self.count(Kind::Play, 13) - self.tops_above_4
     }
 
-    /// What plays can show of bands and multiplies, by name, with how often it was
-    /// seen.
+    /// What calls can show of bands, multiplies and ties, by name, with how often it
+    /// was seen.
     fn shown(&self) -> Vec<(String, u64)> {
         let named = |(at, band): (usize, &Band)| {
             let level = at + 1;
@@ -265,9 +310,16 @@ impl Tally {
             ("multiplies between these", self.multiplies.between),
             ("an odd count of level values", self.multiplies.odd),
         ];
+        let ties = [
+            ("ties in store words", self.ties.words),
+            ("ties in values", self.ties.values),
+            ("ties in plays with fades", self.ties.faded),
+            ("ties in samples", self.ties.samples),
+        ];
         let bands = self.bands.iter().enumerate().flat_map(named);
         bands
             .chain(multiplies.map(|(what, count)| (what.to_string(), count)))
+            .chain(ties.map(|(what, count)| (what.to_string(), count)))
             .collect()
     }
 
@@ -362,6 +414,12 @@ mod tests {
             between: 1,
             odd: 1,
         };
+        tally.ties = Ties {
+            words: 1,
+            values: 1,
+            faded: 1,
+            samples: 1,
+        };
         assert_eq!(tally.not_seen(), ["seek 12", "play 13 for T"]);
         let mut more = Tally::default();
         more.note(Kind::Seek, 12);
@@ -375,9 +433,14 @@ mod tests {
         assert_eq!(tally.accepted(), KINDS.len() as u64);
         tally.bands[1].left = 0;
         tally.multiplies.most = 0;
+        tally.ties.values = 0;
         assert_eq!(
             tally.not_seen(),
-            ["level 2 left just below it", "the most multiplies"]
+            [
+                "level 2 left just below it",
+                "the most multiplies",
+                "ties in values"
+            ]
         );
     }
 
@@ -400,6 +463,20 @@ mod tests {
         let others = tally.bands[1..].iter();
         assert_eq!(others.map(|band| band.held + band.left).sum::<u64>(), 0);
     }
+
+    #[test]
+    fn ties_are_counted_by_place() {
+        let mut even = Voice::ZERO;
+        even.history[3] = 2;
+        let mut tally = Tally::default();
+        let play = (&even, &[2, 0, 7][..]);
+        tally.note_ties(play, (&Voice::ZERO, &[1, 0, 8]), false);
+        tally.note_ties(play, (&Voice::ZERO, play.1), true);
+        tally.note_ties(play, play, true);
+        let seen = tally.ties;
+        assert_eq!((seen.values, seen.faded, seen.samples), (1, 1, 2));
+    }
+
     #[test]
     fn plays_are_counted_by_their_multiplies() {
         // N 2 and B 3: 15 for an output, and 4 for each level value more.

@@ -4,7 +4,7 @@
 //! neighbours, so four outputs in nine are a half.
 
 use drives::call::{lent, Call};
-use drives::EDITION;
+use drives::{EDITION, HALVES_UP};
 use renderer::levels::build;
 use renderer::voice::{open, Card};
 use renderer::Edition;
@@ -44,7 +44,7 @@ fn rendered(edition: Edition, samples: &[i16]) -> (Vec<i32>, Vec<i16>) {
 fn the_mean_stays() {
     let samples = near_silence();
     let recorded = mean(&samples);
-    let (_, half_up) = rendered(Edition::F, &samples);
+    let (_, half_up) = rendered(HALVES_UP, &samples);
     let (store, to_even) = rendered(EDITION, &samples);
     let moved = [half_up, to_even.clone()].map(|out| mean(&out) - recorded);
     println!("recorded {recorded:.4}; moved by {moved:.4?}");

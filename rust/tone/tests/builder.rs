@@ -72,7 +72,7 @@ fn stores_of_other_lengths() {
 #[test]
 fn case_f() {
     let book = book_k(32);
-    assert_eq!(store_of(&book, &[1], 1), [1, 1, 1, 1, 256, 1]);
+    assert_eq!(store_of(&book, &[1], 1), [1, 1, 1, 1, 256, 0]);
     assert_eq!(store_of(&book, &[-1], 1), [1, 1, 1, 1, -256, 0]);
 }
 

@@ -8,8 +8,9 @@ use lib.IntN.{ℤ, pos, natAbs, _+ℤ_, _-ℤ_, _*ℤ_}
 use lib.Signed.{_≤ℤ_}
 use mir.Syntax.{w64}
 use mir.Val.{SFits}
+use mir.ValLaws.{toZ-ofZ}
 use Rattle.arith.specs.Floor.{floorDiv, near}
-use Rattle.arith.proofs.Bits.{reads}
+use Rattle.arith.proofs.Bits.{read64, reads}
 use Rattle.arith.proofs.Linear.{linear, signed, abs-*}
 use Rattle.arith.proofs.Integers.{<ℤ-≤ℤ, abs-above, abs-fits}
 use Rattle.arith.proofs.Rounding.{oddOf, bit-small, near-risen}
@@ -81,8 +82,10 @@ module _ (c : tie.After-one-or) where
 
   bit-is : bit ≡ cond (start .args .rest) (pos 1) (oddOf (n start))
   bit-is =
-      let fits : SFits w64 (c .before .excess .result) = record { sfits = c .before .excess .ok } in
-      (simp (reads, fits) at (c .one-or .ensures)) ∙ ap (cond (start .args .rest) (pos 1)) odd-is
+      let odd = c .before .excess .result in
+      let fits : SFits w64 odd = record { sfits = c .before .excess .ok } in
+      let added : bit ≡ cond (start .args .rest) (pos 1) (read64 odd) = c .one-or .ensures in
+      added ∙ ap (cond (start .args .rest) (pos 1)) (toZ-ofZ w64 odd fits ∙ odd-is)
 
   bit-fits : SFits w64 bit
   bit-fits = record { sfits = c .one-or .ok }

@@ -42,7 +42,7 @@ mod tests {
         let halves = [-5, -3, -1, 1, 3, 5].map(|a| near(a * 8192, 14));
         assert_eq!(halves, [-2, -2, 0, 0, 2, 2]);
         assert_eq!(halves, [-5, -3, -1, 1, 3, 5].map(|a| near_by(a * 3, 6)));
-        let none = |a| near_with_rest(a * 8192, || false, 14);
+        let none = |a: i64| near_with_rest(a * 8192, || false, 14);
         assert_eq!(halves, [-5, -3, -1, 1, 3, 5].map(none));
     }
 
