@@ -5,7 +5,6 @@ pub mod Ring
 pub mod Bits
 pub mod Floor
 pub mod Limit
-pub mod Rest
 pub mod Rounding
 pub mod Sum
 pub mod Lists

@@ -1,17 +1,16 @@
--- How the code comes to the nearest integer: by a division rounded down, of a number to which a half was added, or nearly a half. Assumes
+-- How the code comes to the nearest integer: by a division rounded down, of a number to which nearly a half was added, or a half. Assumes
 -- nothing.
-use mathlib.Core.Path.{_≡_, sym, ap, ap₂, _∙_}
-use mathlib.Core.Bool.{Bool, true, false, cond}
+use mathlib.Core.Path.{_≡_, sym, ap, _∙_}
 use mathlib.Core.Logic.{_⊎_, inl, inr}
-use Prim.Native.Nat.{ℕ, suc, _*_, _%_, _<_}
-use native.Mathlib.Nat.{div-add-mod, mod-lt}
+use Prim.Native.Nat.{ℕ, suc, _+_, _*_, _%_, _≤_, _<_}
+use native.Mathlib.Nat.{div-add-mod, mod-lt, mul-pos, mul-le-mul-right}
 use native.Mathlib.Omega.{arith}
-use lib.IntN.{ℤ, pos, negsuc, natAbs, _+ℤ_, _-ℤ_, _*ℤ_}
+use lib.IntN.{ℤ, pos, negsuc, natAbs, _+ℤ_, _-ℤ_, _*ℤ_, +ℤ-comm}
 use lib.Signed.{_≤ℤ_, _<ℤ_}
 use Rattle.arith.specs.Floor.{floorDiv, evenOf, near}
 use Rattle.arith.proofs.Linear.{linear}
-use Rattle.arith.proofs.Integers.{≤ℤ-or-<ℤ, ≤ℤ-antisymm}
-use Rattle.arith.proofs.Floor.{even-or, closer, halfway, near-is, near-scale, floor-≤, floor-<, floor-unique}
+use Rattle.arith.proofs.Integers.{≤ℤ-or-<ℤ, ≤ℤ-antisymm, abs-triangle}
+use Rattle.arith.proofs.Floor.{even-or, closer, halfway, near-is, near-scale, floor-≤, floor-<, floor-unique, floor-scale, floor-bound, floor-+, floor-floor}
 
 -- ---- the lowest bit
 
@@ -22,12 +21,8 @@ oddOf n = n -ℤ pos 2 *ℤ floorDiv n 2
 below-two : 0 < 2
 below-two = omega arith
 
-odd-small : (n : ℤ) → (pos 0 ≤ℤ oddOf n) × (oddOf n ≤ℤ pos 1)
+pub odd-small : (n : ℤ) → (pos 0 ≤ℤ oddOf n) × (oddOf n ≤ℤ pos 1)
 odd-small n = simp linear (omega (arith, simp linear at (floor-≤ n below-two), simp linear at (floor-< n below-two)))
-
-pub bit-small : (r : Bool) (n : ℤ) → (pos 0 ≤ℤ cond r (pos 1) (oddOf n)) × (cond r (pos 1) (oddOf n) ≤ℤ pos 1)
-bit-small true n = simp linear (omega arith)
-bit-small false n = odd-small n
 
 odd-bit : (n : ℤ) → oddOf n ≡ pos (natAbs n % 2)
 unfolding floorDiv
@@ -57,23 +52,18 @@ even-down n =
 -- ---- with nearly a half added
 
 module _ (a : ℤ) {h : ℕ} (l : 0 < h) where
-  -- the quotient that is rounded down, and what is divided
   twice : 0 < 2 * h
   twice = omega (arith, l)
 
+  -- the quotient that is rounded down, and what is divided
   abbrev n : ℤ
   n = floorDiv a (2 * h)
 
-  abbrev risen : Bool → ℤ
-  risen r = a +ℤ (pos h -ℤ pos 1) +ℤ cond r (pos 1) (oddOf n)
+  abbrev risen : ℤ
+  risen = a +ℤ (pos h -ℤ pos 1) +ℤ oddOf n
 
-  pub near-risen : (r : Bool) → floorDiv (risen r) (2 * h) ≡ near (pos 2 *ℤ a +ℤ cond r (pos 1) (pos 0)) (2 * (2 * h))
-  near-risen true =
-      let q = floorDiv (risen true) (2 * h) in
-      let k = simp linear at (floor-≤ (risen true) {b = 2 * h} twice) in
-      let m = simp linear at (floor-< (risen true) {b = 2 * h} twice) in
-      sym (near-is (pos 2 *ℤ a +ℤ pos 1) (omega (arith, l)) (closer q (simp linear (omega (arith, k, m)))))
-  near-risen false = go (≤ℤ-or-<ℤ middle a) (≤ℤ-or-<ℤ a middle)
+  near-risen : floorDiv risen (2 * h) ≡ near a (2 * h)
+  near-risen = go (≤ℤ-or-<ℤ middle a) (≤ℤ-or-<ℤ a middle)
     where
       middle : ℤ
       middle = pos (2 * h) *ℤ n +ℤ pos h
@@ -87,46 +77,62 @@ module _ (a : ℤ) {h : ℕ} (l : 0 < h) where
           let d = simp linear at e in
           rw z (floor-unique (a +ℤ (pos h -ℤ pos 1) +ℤ pos 1) twice (simp linear (omega (arith, d))) (simp linear (omega (arith, d, l))))
 
-      go : (middle ≤ℤ a) ⊎ (a <ℤ middle) → (a ≤ℤ middle) ⊎ (middle <ℤ a) → floorDiv (risen false) (2 * h) ≡ near (pos 2 *ℤ a +ℤ pos 0) (2 * (2 * h))
+      go : (middle ≤ℤ a) ⊎ (a <ℤ middle) → (a ≤ℤ middle) ⊎ (middle <ℤ a) → floorDiv risen (2 * h) ≡ near a (2 * h)
       go (inr k) m =
           let d = simp linear at k in
           let low = simp linear at (floor-≤ a twice) in
           let bit = simp linear at (odd-small n) in
-          let f : floorDiv (risen false) (2 * h) ≡ n = floor-unique (risen false) twice (simp linear (omega (arith, low, bit, l))) (simp linear (omega (arith, bit, d))) in
-          f ∙ sym (near-is (pos 2 *ℤ a +ℤ pos 0) (omega (arith, l)) (closer n (simp linear (omega (arith, low, d)))))
+          let f : floorDiv risen (2 * h) ≡ n = floor-unique risen twice (simp linear (omega (arith, low, bit, l))) (simp linear (omega (arith, bit, d))) in
+          f ∙ sym (near-is a twice (closer n (simp linear (omega (arith, low, d)))))
       go (inl k) (inr m) =
           let d = simp linear at m in
           let high = simp linear at (floor-< a twice) in
           let bit = simp linear at (odd-small n) in
-          let f : floorDiv (risen false) (2 * h) ≡ n +ℤ pos 1 = floor-unique (risen false) twice (simp linear (omega (arith, bit, d))) (simp linear (omega (arith, bit, high))) in
-          f ∙ sym (near-is (pos 2 *ℤ a +ℤ pos 0) (omega (arith, l)) (closer (n +ℤ pos 1) (simp linear (omega (arith, high, d)))))
+          let f : floorDiv risen (2 * h) ≡ n +ℤ pos 1 = floor-unique risen twice (simp linear (omega (arith, bit, d))) (simp linear (omega (arith, bit, high))) in
+          f ∙ sym (near-is a twice (closer (n +ℤ pos 1) (simp linear (omega (arith, high, d)))))
       go (inl k) (inl m) =
           let e : a ≡ middle = ≤ℤ-antisymm m k in
-          exact e (oddOf n) (odd-or n) ∙ even-up n ∙ sym (near-is (pos 2 *ℤ a +ℤ pos 0) (omega (arith, l)) (halfway n (simp linear (omega (arith, simp linear at e)))))
-
-  -- what lies at no half has something left over where a half was added
-  pub near-apart : (r : Bool) → (a +ℤ pos h -ℤ pos (2 * h) *ℤ floorDiv (a +ℤ pos h) (2 * h) ≡ pos 0 → ⊥) → floorDiv (a +ℤ pos h) (2 * h) ≡ near (pos 2 *ℤ a +ℤ cond r (pos 1) (pos 0)) (2 * (2 * h))
-  near-apart r apart = go (≤ℤ-or-<ℤ up (pos (2 * h) *ℤ q)) r
-    where
-      up : ℤ
-      up = a +ℤ pos h
-
-      q : ℤ
-      q = floorDiv up (2 * h)
-
-      go : (up ≤ℤ (pos (2 * h) *ℤ q)) ⊎ ((pos (2 * h) *ℤ q) <ℤ up) → (r : Bool) → q ≡ near (pos 2 *ℤ a +ℤ cond r (pos 1) (pos 0)) (2 * (2 * h))
-      go (inl k) r =
-          let e : up ≡ pos (2 * h) *ℤ q = ≤ℤ-antisymm k (floor-≤ up twice) in
-          absurd (apart (simp linear (omega (arith, simp linear at e))))
-      go (inr k) true = sym (near-is (pos 2 *ℤ a +ℤ pos 1) (omega (arith, l)) (closer q (simp linear (omega (arith, simp linear at k, simp linear at (floor-< up twice))))))
-      go (inr k) false = sym (near-is (pos 2 *ℤ a +ℤ pos 0) (omega (arith, l)) (closer q (simp linear (omega (arith, simp linear at k, simp linear at (floor-< up twice))))))
+          exact e (oddOf n) (odd-or n) ∙ even-up n ∙ sym (near-is a twice (halfway n (simp linear (omega (arith, simp linear at e)))))
 
 -- twice a number over twice its divisor
-pub near-double : (a : ℤ) {b : ℕ} → 0 < b → near (pos 2 *ℤ (pos 2 *ℤ a) +ℤ pos 0) (2 * (2 * b)) ≡ near a b
-near-double a {b} h =
-    let e : pos 2 *ℤ (pos 2 *ℤ a) +ℤ pos 0 ≡ pos 4 *ℤ a = simp linear (omega arith) in
-    let d : 2 * (2 * b) ≡ 4 * b = omega arith in
-    ap₂ near e d ∙ near-scale a b h (omega arith)
+pub near-doubled : (a : ℤ) {b : ℕ} → 0 < b → floorDiv (pos 2 *ℤ a +ℤ oddOf (floorDiv a b) +ℤ (pos b -ℤ pos 1)) (2 * b) ≡ near a b
+near-doubled a {b} h =
+    let o = oddOf (floorDiv a b) in
+    let e : pos 2 *ℤ a +ℤ o +ℤ (pos b -ℤ pos 1) ≡ pos 2 *ℤ a +ℤ (pos b -ℤ pos 1) +ℤ o = simp linear (omega arith) in
+    ap (λ x. floorDiv x (2 * b)) e
+    ∙ ap (λ q. floorDiv (pos 2 *ℤ a +ℤ (pos b -ℤ pos 1) +ℤ oddOf q) (2 * b)) (sym (floor-scale a b {c = 2} (omega arith)))
+    ∙ near-risen (pos 2 *ℤ a) h ∙ near-scale a b h (omega arith)
+
+-- in two parts, of which the lower one gets what is added
+pub near-parts : (H L : ℤ) {u h : ℕ} → 0 < u → 0 < h
+    → floorDiv (H +ℤ floorDiv (L +ℤ (pos (h * u) -ℤ pos 1) +ℤ oddOf (floorDiv (H +ℤ floorDiv L u) (2 * h))) u) (2 * h) ≡ near (pos u *ℤ H +ℤ L) (u * (2 * h))
+near-parts H L {u} {h} k l =
+    let T = pos u *ℤ H +ℤ L in
+    let C = pos (h * u) -ℤ pos 1 in
+    let o = oddOf (floorDiv (H +ℤ floorDiv L u) (2 * h)) in
+    let e : u * (2 * h) ≡ 2 * (h * u) = omega arith in
+    let raised : pos u *ℤ H +ℤ (L +ℤ C +ℤ o) ≡ T +ℤ C +ℤ o = simp linear (omega arith) in
+    sym (parts (L +ℤ C +ℤ o)) ∙ ap (λ x. floorDiv x (u * (2 * h))) raised ∙ ap (λ q. floorDiv (T +ℤ C +ℤ oddOf q) (u * (2 * h))) (sym (parts L))
+    ∙ ap (λ m. floorDiv (T +ℤ C +ℤ oddOf (floorDiv T m)) m) e ∙ near-risen T (mul-pos l k) ∙ ap (near T) (sym e)
+  where
+    -- the floor of both
+    parts : (x : ℤ) → floorDiv (pos u *ℤ H +ℤ x) (u * (2 * h)) ≡ floorDiv (H +ℤ floorDiv x u) (2 * h)
+    parts x =
+        sym (floor-floor (pos u *ℤ H +ℤ x) u (2 * h))
+        ∙ ap (λ q. floorDiv q (2 * h)) (ap (λ z. floorDiv z u) (+ℤ-comm (pos u *ℤ H) x) ∙ floor-+ x H k ∙ +ℤ-comm (floorDiv x u) H)
+
+-- how large both quotients by u are
+module _ (L : ℤ) {u : ℕ} (k : 0 < u) where
+  pub part-small : natAbs (floorDiv L u) ≤ natAbs L
+  part-small = floor-bound L k (natAbs L) (omega (arith, mul-le-mul-right (natAbs L) k))
+
+  pub raised-small : (h : ℕ) (n : ℤ) → natAbs (floorDiv (L +ℤ (pos (h * u) -ℤ pos 1) +ℤ oddOf n) u) ≤ natAbs L + 1 + h
+  raised-small h n =
+      let x = L -ℤ pos 1 +ℤ oddOf n in
+      let e : L +ℤ (pos (h * u) -ℤ pos 1) +ℤ oddOf n ≡ x +ℤ pos u *ℤ pos h = simp linear (omega arith) in
+      let small : natAbs x ≤ natAbs L + 1 = simp linear (omega (arith, simp linear at (odd-small n))) in
+      let q : natAbs (floorDiv x u) ≤ natAbs L + 1 = floor-bound x k (natAbs L + 1) (omega (arith, small, mul-le-mul-right (natAbs L + 1) k)) in
+      rw (e, floor-+ x (pos h) k) (omega (arith, q, abs-triangle (floorDiv x u) (pos h)))
 
 -- ---- from a half that was taken up
 
@@ -138,7 +144,13 @@ module _ (a : ℤ) {b : ℕ} (h : 0 < b) where
   left = pos 2 *ℤ a +ℤ pos b -ℤ pos (2 * b) *ℤ up
 
   pub near-no-half : (left ≡ pos 0 → ⊥) → up ≡ near a b
-  near-no-half n = near-apart (pos 2 *ℤ a) h false n ∙ near-double a h
+  near-no-half apart = go (≤ℤ-or-<ℤ left (pos 0))
+    where
+      go : (left ≤ℤ pos 0) ⊎ (pos 0 <ℤ left) → up ≡ near a b
+      go (inl k) = absurd (apart (≤ℤ-antisymm k (simp linear (omega (arith, simp linear at (floor-≤ (pos 2 *ℤ a +ℤ pos b) {b = 2 * b} (omega (arith, h))))))))
+      go (inr k) =
+          let m = floor-< (pos 2 *ℤ a +ℤ pos b) {b = 2 * b} (omega (arith, h)) in
+          sym (near-is a h (closer up (simp linear (omega (arith, simp linear at k, simp linear at m)))))
 
   pub near-half : left ≡ pos 0 → up -ℤ oddOf up ≡ near a b
   near-half e =

@@ -2,7 +2,7 @@
 
 ghost use mathlib.Core.Path.{_≡_};
 ghost use mathlib.Core.Bool.{cond};
-ghost use Prim.Native.Nat.{_+_, _*_, _^_, _≤_};
+ghost use Prim.Native.Nat.{_+_, _*_, _^_, _≤_, _<_};
 ghost use lib.IntN.{pos, negsuc, natAbs, _+ℤ_, _-ℤ_, _*ℤ_};
 ghost use lib.Signed.{ltZ, _<ℤ_, _≤ℤ_};
 ghost use Rattle.arith.specs.Floor.{floorDiv, near};
@@ -47,50 +47,32 @@ fn floor_shift(a: i64, b: i64) -> i64
     (a - excess(a, b)) / b
 }
 
-// 1 where `holds`, else x.
-fn one_or(holds: bool, x: i64) -> i64
-    ensures { λ r. ⌜ r ≡ cond holds (pos 1) x ⌝ }
-{
-    if holds {
-        return 1;
-    }
-    x
-}
-
-// A number whose floor is a, divided by 2 × half and rounded to the nearest integer; `rest` says whether it has anything above a. One less
-// than the half is added, and 1 more where a half goes up: from an odd quotient, or with a rest, since it is no half then. There is no test,
-// so that the compiler takes two in one step.
-fn to_even(a: i64, rest: bool, half: i64) -> i64
-    requires { ⌜ natAbs a ≤ 2 ^ 62 ⌝ ∗ ⌜ pos 0 <ℤ half ⌝ ∗ ⌜ half ≤ℤ pos (2 ^ 32) ⌝ }
-    ensures { λ r. ⌜ r ≡ near (pos 2 *ℤ a +ℤ cond rest (pos 1) (pos 0)) (2 * (2 * natAbs half)) ⌝ }
-{
-    let odd = excess(floor_shift(a, 2 * half), 2);
-    floor_shift(a + (half - 1) + one_or(rest, odd), 2 * half)
-}
-
-// The same in fewer steps, where halves are rare: only if a lies at a half do the rest and the quotient's lowest bit decide.
-pub fn near_rest(a: i64, rest: bool, half: i64) -> i64
-    requires { ⌜ natAbs a ≤ 2 ^ 62 ⌝ ∗ ⌜ pos 0 <ℤ half ⌝ ∗ ⌜ half ≤ℤ pos (2 ^ 32) ⌝ }
-    ensures { λ r. ⌜ r ≡ near (pos 2 *ℤ a +ℤ cond rest (pos 1) (pos 0)) (2 * (2 * natAbs half)) ⌝ }
-{
-    let up = a + half;
-    if excess(up, 2 * half) == 0 {
-        return to_even(a, rest, half);
-    }
-    floor_shift(up, 2 * half)
-}
-
-// a / b, rounded to the nearest integer: the one rounding rule of levels, values, fades and outputs.
+// a / b, rounded to the nearest integer: the one rounding rule of levels, values, fades and outputs. One less than the half is added, and 1
+// more where a half goes up, from an odd quotient. For a constant power of two the compiler makes a few steps of it, and no branch, so that
+// the time does not go with the number.
 pub fn near(a: i64, b: i64) -> i64
-    requires { ⌜ natAbs a ≤ 2 ^ 61 ⌝ ∗ ⌜ pos 0 <ℤ b ⌝ ∗ ⌜ b ≤ℤ pos (2 ^ 32) ⌝ }
+    requires { ⌜ natAbs a ≤ 2 ^ 60 ⌝ ∗ ⌜ pos 0 <ℤ b ⌝ ∗ ⌜ b ≤ℤ pos (2 ^ 32) ⌝ }
     ensures { λ r. ⌜ r ≡ near a (natAbs b) ⌝ }
 {
-    to_even(2 * a, false, b)
+    let odd = excess(floor_shift(a, b), 2);
+    floor_shift(2 * a + odd + (b - 1), 2 * b)
+}
+
+// The same of a number in two parts, high × unit + low, divided by unit × 2 × half. What rounding adds goes to the lower part, which is kept
+// whole: it tells a half from what lies just above one.
+pub fn near_parts(high: i64, low: i64, unit: i64, half: i64) -> i64
+    requires { ⌜ (natAbs high + natAbs low < 2 ^ 62) × (natAbs low ≤ 2 ^ 61) ⌝ }
+    requires { ⌜ pos 0 <ℤ unit ⌝ ∗ ⌜ unit ≤ℤ pos 65536 ⌝ ∗ ⌜ pos 0 <ℤ half ⌝ ∗ ⌜ half ≤ℤ pos (2 ^ 32) ⌝ }
+    ensures { λ r. ⌜ r ≡ near (pos (natAbs unit) *ℤ high +ℤ low) (natAbs unit * (2 * natAbs half)) ⌝ }
+{
+    let odd = excess(floor_shift(high + floor_shift(low, unit), 2 * half), 2);
+    let raised = odd + (low + (half * unit - 1));
+    floor_shift(floor_shift(raised, unit) + high, 2 * half)
 }
 
 // The same for a divisor that is no constant, with one division: a half is rounded up, and then down to the even number.
 pub fn near_by(a: i64, b: i64) -> i64
-    requires { ⌜ natAbs a ≤ 2 ^ 61 ⌝ ∗ ⌜ pos 0 <ℤ b ⌝ ∗ ⌜ b ≤ℤ pos (2 ^ 32) ⌝ }
+    requires { ⌜ natAbs a ≤ 2 ^ 60 ⌝ ∗ ⌜ pos 0 <ℤ b ⌝ ∗ ⌜ b ≤ℤ pos (2 ^ 32) ⌝ }
     ensures { λ r. ⌜ r ≡ near a (natAbs b) ⌝ }
 {
     let x = 2 * a + b;

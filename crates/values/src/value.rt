@@ -124,8 +124,8 @@ pub fn level_bound(level: u32) -> i32
     }
 }
 
-// near((2^32 × impulses + offset × differences) / (2^14 × 2^32)). The sum has up to 76 bits, so it is taken apart: its floor in 2^16, and
-// whether that left a rest, without which a half could not be told from what lies just above one.
+// near((2^32 × impulses + offset × differences) / (2^14 × 2^32)). The sum has up to 76 bits, so it is made in two parts, the upper one in
+// 2^16.
 pub fn mixed(impulses: i64, differences: i64, offset: u64) -> i64
     requires { ⌜ (natAbs impulses ≤ 2 ^ 44) × (natAbs differences ≤ 2 ^ 45) × (offset < 2 ^ 32) ⌝ }
     ensures { λ r. ⌜ r ≡ near (pos (2 ^ 32) *ℤ impulses +ℤ pos offset *ℤ differences) (16384 * 2 ^ 32) ⌝ }
@@ -133,10 +133,7 @@ pub fn mixed(impulses: i64, differences: i64, offset: u64) -> i64
     let e = offset as i64;
     let high = differences >> 16;
     let low = differences - high * 65536;
-    let tail = e * low;
-    let tail_high = tail >> 16;
-    let floor = impulses * 65536 + e * high + tail_high;
-    arith::near_rest(floor, tail % 65536 != 0, 536870912)
+    arith::near_parts(impulses * 65536 + e * high, e * low, 65536, 536870912)
 }
 
 // The value of a level at a position. `words` are the level's words; the book has `phases` phases of `taps` taps.

@@ -6,7 +6,7 @@ use native.Mathlib.Nat.{div-add-mod, mul-le-mul-right, mul-div-mul-right, add-mu
 use native.Mathlib.Omega.{arith}
 use lib.IntN.{ℤ, pos, natAbs, _+ℤ_, _-ℤ_, _*ℤ_}
 use lib.ListN.{drop}
-use lib.Pow.{pow-pos, pow-add}
+use lib.Pow.{pow-pos}
 use lib.Seq.{getD-drop}
 use Rattle.arith.specs.Floor.{near}
 use Rattle.arith.specs.Lists.{at}

@@ -43,7 +43,7 @@ module _ (s : tie.Start) where
   x-is = ap (λ z. pos 2 *ℤ a +ℤ z) (abs-above (<ℤ-≤ℤ (s .pre .1 .0)))
 
   near-fits : SFits w64 (near a (natAbs b))
-  near-fits = abs-fits w64 (near a (natAbs b)) (omega (arith, near-bound a some (2 ^ 61) (omega (arith, s .pre .0, mul-le-mul-right (2 ^ 61) some))))
+  near-fits = abs-fits w64 (near a (natAbs b)) (omega (arith, near-bound a some (2 ^ 60) (omega (arith, s .pre .0, mul-le-mul-right (2 ^ 60) some))))
 
 mul-x : tie.Need-mul-x
 mul-x c = simp (reads, c .fits .a) (twice-a-fits c)

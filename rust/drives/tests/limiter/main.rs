@@ -38,7 +38,7 @@ fn branches_of_the_product_are_seen() {
     let product = product();
     assert_eq!(
         product.branches("arith", "near"),
-        set(&["arith::excess: if", "arith::one_or: if"])
+        set(&["arith::excess: if"])
     );
     let step = product.branches("decimation", "tap_step");
     for word in ["if", "while"] {

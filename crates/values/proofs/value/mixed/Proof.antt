@@ -1,10 +1,9 @@
 -- `values::value::mixed` meets its contract: every value on the way fits 64 bits, so `values` reads it back from its bits, and
--- `near-mixed` says that the floor and the rest round as the sum does. Assumes nothing.
-use mathlib.Core.Path.{_≡_, sym, ap, _∙_}
-use mathlib.Core.Bool.{not, cond}
-use Prim.Native.Nat.{ℕ, _^_, _≤_}
+-- `sum-parts` says that both parts are the sum's. Assumes nothing.
+use mathlib.Core.Path.{_≡_, ap, _∙_}
+use Prim.Native.Nat.{ℕ, _*_, _^_, _≤_}
 use native.Mathlib.Omega.{arith}
-use lib.IntN.{ℤ, pos, natAbs, _+ℤ_, _*ℤ_}
+use lib.IntN.{ℤ, pos, _+ℤ_, _*ℤ_}
 use lib.Signed.{ltZ-yes, leZ-yes}
 use mir.Syntax.{w64}
 use mir.Val.{SFits, toZ, ofZ}
@@ -12,9 +11,8 @@ use mir.ValLaws.{toZ-ofZ, toZ-pos}
 use Rattle.arith.specs.Floor.{floorDiv, near}
 use Rattle.arith.proofs.Linear.{linear}
 use Rattle.arith.proofs.Integers.{abs-fits}
-use Rattle.arith.proofs.Floor.{floor-fits, quot-fits}
-use Rattle.arith.proofs.Rest.{rem-bits}
-use Rattle.values.proofs.Mix.{highOf, lowOf, tailOf, headOf, low-bound, high-bound, high-product-bound, tail-bound, head-bound, floor-small, near-mixed}
+use Rattle.arith.proofs.Floor.{floor-fits}
+use Rattle.values.proofs.Mix.{highOf, lowOf, tailOf, headOf, low-bound, high-bound, high-product-bound, tail-bound, head-bound, sum-parts}
 use Rattle.values.proofs.value.mixed.Statement.{statement}
 use Rattle.values.proofs.value.mixed.Tie as tie
 
@@ -66,9 +64,6 @@ module _ (c : tie.Start) where
   read-tail : toZ w64 (ofZ w64 (tailOf e d)) ≡ tailOf e d
   read-tail = read (tailOf e d) tail-fits
 
-  read-tail-high : toZ w64 (ofZ w64 (floorDiv (tailOf e d) 65536)) ≡ floorDiv (tailOf e d) 65536
-  read-tail-high = read (floorDiv (tailOf e d) 65536) (floor-fits w64 (tailOf e d) 65536 tail-fits)
-
   whole-fits : SFits w64 (i *ℤ pos 65536)
   whole-fits = simp linear (omega (arith, simp linear at (c .pre .0)))
 
@@ -87,19 +82,7 @@ module _ (c : tie.Start) where
   read-head : toZ w64 (ofZ w64 (headOf i e d)) ≡ headOf i e d
   read-head = read (headOf i e d) head-fits
 
-  abbrev floor : ℤ
-  floor = headOf i e d +ℤ floorDiv (tailOf e d) 65536
-
-  floor-is-small : natAbs floor ≤ 2 ^ 62
-  floor-is-small = floor-small i e d (c .pre .0) e-bound (c .pre .1)
-
-  floor-is-fit : SFits w64 floor
-  floor-is-fit = abs-fits w64 floor (omega (arith, floor-is-small))
-
-  read-floor : toZ w64 (ofZ w64 floor) ≡ floor
-  read-floor = read floor floor-is-fit
-
-ruleset values = (read-i, read-d, read-e, read-high, read-high-back, read-low, read-tail, read-tail-high, read-whole, read-high-product, read-head, read-floor)
+ruleset values = (read-i, read-d, read-e, read-high, read-high-back, read-low, read-tail, read-whole, read-high-product, read-head)
 
 cast-e : tie.Need-cast-e
 cast-e c = simp linear (omega (arith, e-bound c))
@@ -112,54 +95,36 @@ sub-low : tie.Need-sub-low
 unfolding floorDiv
 sub-low c = simp values (low-fits c)
 
-mul-tail : tie.Need-mul-tail
-unfolding floorDiv
-mul-tail c = simp values (tail-fits c)
+mul-near-parts : tie.Need-mul-near-parts
+mul-near-parts c = simp values (whole-fits c)
 
-mul-floor : tie.Need-mul-floor
-mul-floor c = simp values (whole-fits c)
-
-mul-floor-2 : tie.Need-mul-floor-2
+mul-near-parts-2 : tie.Need-mul-near-parts-2
 unfolding floorDiv
-mul-floor-2 c = simp values (high-product-fits c)
+mul-near-parts-2 c = simp values (high-product-fits c)
 
-add-floor : tie.Need-add-floor
+add-near-parts : tie.Need-add-near-parts
 unfolding floorDiv
-add-floor c = simp values (head-fits c)
+add-near-parts c = simp values (head-fits c)
 
-add-floor-2 : tie.Need-add-floor-2
+mul-near-parts-3 : tie.Need-mul-near-parts-3
 unfolding floorDiv
-add-floor-2 c = simp values (floor-is-fit c)
+mul-near-parts-3 c = simp values (tail-fits c)
 
-rem-near-rest : tie.Need-rem-near-rest
+near-parts-requires : tie.Need-near-parts-requires
 unfolding floorDiv
-rem-near-rest c = (omega arith, simp values (quot-fits w64 (tailOf (e c) (d c)) (ltZ-yes tt) (tail-fits c)))
-
-near-rest-requires : tie.Need-near-rest-requires
-unfolding floorDiv
-near-rest-requires c κs = simp values (floor-is-small c, (ltZ-yes tt, leZ-yes tt))
+near-parts-requires c κs =
+    let head = head-bound (i c) (e c) (d c) (c .pre .0) (e-bound c) (c .pre .1) in
+    let tail = tail-bound (i c) (e c) (d c) (c .pre .0) (e-bound c) (c .pre .1) in
+    simp values ((omega (arith, head, tail), omega (arith, tail)), (ltZ-yes tt, (leZ-yes tt, (ltZ-yes tt, leZ-yes tt))))
 
 returns : tie.Need-returns
 unfolding floorDiv
 returns c =
     let s = c .before in
-    read (c .near-rest .result) (record { sfits = c .near-rest .ok })
-    ∙ (simp values at (c .near-rest .ensures))
-    ∙ ap (λ t. near (pos 2 *ℤ floor s +ℤ cond (not t) (pos 1) (pos 0)) (2 ^ 31)) (rem-bits w64 (tailOf (e s) (d s)) (pos 65536) (tail-fits s))
-    ∙ sym (near-mixed (i s) (e s) (d s))
+    let rounded : c .near-parts .result ≡ near (pos 65536 *ℤ headOf (i s) (e s) (d s) +ℤ tailOf (e s) (d s)) (16384 * 2 ^ 32) = simp values at (c .near-parts .ensures) in
+    read (c .near-parts .result) (record { sfits = c .near-parts .ok }) ∙ rounded ∙ ap (λ x. near x (16384 * 2 ^ 32)) (sum-parts (i s) (e s) (d s))
 
 pub mixed-spec : {M : Type 1} → statement M
 mixed-spec =
     tie.close
-    (tie.spec
-    cast-e
-    mul-low
-    sub-low
-    mul-tail
-    mul-floor
-    mul-floor-2
-    add-floor
-    add-floor-2
-    rem-near-rest
-    near-rest-requires
-    returns)
+    (tie.spec cast-e mul-low sub-low mul-near-parts mul-near-parts-2 add-near-parts mul-near-parts-3 near-parts-requires returns)
