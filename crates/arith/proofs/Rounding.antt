@@ -10,7 +10,7 @@ use lib.Signed.{_≤ℤ_, _<ℤ_}
 use Rattle.arith.specs.Floor.{floorDiv, evenOf, near}
 use Rattle.arith.proofs.Linear.{linear}
 use Rattle.arith.proofs.Integers.{≤ℤ-or-<ℤ, ≤ℤ-antisymm, abs-triangle}
-use Rattle.arith.proofs.Floor.{even-or, closer, halfway, near-is, near-scale, floor-≤, floor-<, floor-unique, floor-scale, floor-bound, floor-+, floor-floor}
+use Rattle.arith.proofs.Floor.{even-or, closer, halfway, near-is, floor-≤, floor-<, floor-unique, floor-bound, floor-+, floor-floor}
 
 -- ---- the lowest bit
 
@@ -93,15 +93,6 @@ module _ (a : ℤ) {h : ℕ} (l : 0 < h) where
       go (inl k) (inl m) =
           let e : a ≡ middle = ≤ℤ-antisymm m k in
           exact e (oddOf n) (odd-or n) ∙ even-up n ∙ sym (near-is a twice (halfway n (simp linear (omega (arith, simp linear at e)))))
-
--- twice a number over twice its divisor
-pub near-doubled : (a : ℤ) {b : ℕ} → 0 < b → floorDiv (pos 2 *ℤ a +ℤ oddOf (floorDiv a b) +ℤ (pos b -ℤ pos 1)) (2 * b) ≡ near a b
-near-doubled a {b} h =
-    let o = oddOf (floorDiv a b) in
-    let e : pos 2 *ℤ a +ℤ o +ℤ (pos b -ℤ pos 1) ≡ pos 2 *ℤ a +ℤ (pos b -ℤ pos 1) +ℤ o = simp linear (omega arith) in
-    ap (λ x. floorDiv x (2 * b)) e
-    ∙ ap (λ q. floorDiv (pos 2 *ℤ a +ℤ (pos b -ℤ pos 1) +ℤ oddOf q) (2 * b)) (sym (floor-scale a b {c = 2} (omega arith)))
-    ∙ near-risen (pos 2 *ℤ a) h ∙ near-scale a b h (omega arith)
 
 -- in two parts, of which the lower one gets what is added
 pub near-parts : (H L : ℤ) {u h : ℕ} → 0 < u → 0 < h

@@ -7,7 +7,7 @@ use native.Mathlib.Numerals.{add-one}
 use native.Mathlib.Decide.{ℕ-discrete}
 use native.Mathlib.Omega.{arith}
 use borrow.Author.Tests.{eqb-true, lt-ltb, le-ltb, lt-leb, le-leb, eq-eqb, ne-eqb, not-true, not-false}
-use lib.Dec.{eqb}
+use lib.Dec.{leb, eqb, leb·suc-suc}
 use lib.IntN.{ℤ, pos, negsuc, natAbs}
 use lib.Signed.{leZ, _≤ℤ_}
 use mir.Syntax.{Width}
@@ -165,6 +165,11 @@ within-size lo hi (negsuc n) e = absurd (omega (arith, simp linear at (within-tr
 -- −(lo + 1) ≤ x ≤ lo
 pub within-half : (h : ℕ) (x : ℤ) → within (negsuc h) (pos h) x ≡ true → natAbs x ≤ h + 1
 within-half h x e = abs-≤ x (simp linear (omega (arith, simp linear at (within-true (negsuc h) (pos h) x e))))
+
+-- at most so far from 0
+pub within-abs : (n : ℕ) (x : ℤ) → within (negsuc n) (pos (suc n)) x ≡ leb (natAbs x) (suc n)
+within-abs n (pos m) = refl
+within-abs n (negsuc m) = &&-true (leb m n) ∙ sym (leb·suc-suc m n)
 
 -- ---- the tests of a branch on unsigned numbers, as the definitions state them
 

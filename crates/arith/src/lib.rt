@@ -47,19 +47,9 @@ fn floor_shift(a: i64, b: i64) -> i64
     (a - excess(a, b)) / b
 }
 
-// a / b, rounded to the nearest integer: the one rounding rule of levels, values, fades and outputs. One less than the half is added, and 1
-// more where a half goes up, from an odd quotient. For a constant power of two the compiler makes a few steps of it, and no branch, so that
-// the time does not go with the number.
-pub fn near(a: i64, b: i64) -> i64
-    requires { ⌜ natAbs a ≤ 2 ^ 60 ⌝ ∗ ⌜ pos 0 <ℤ b ⌝ ∗ ⌜ b ≤ℤ pos (2 ^ 32) ⌝ }
-    ensures { λ r. ⌜ r ≡ near a (natAbs b) ⌝ }
-{
-    let odd = excess(floor_shift(a, b), 2);
-    floor_shift(2 * a + odd + (b - 1), 2 * b)
-}
-
-// The same of a number in two parts, high × unit + low, divided by unit × 2 × half. What rounding adds goes to the lower part, which is kept
-// whole: it tells a half from what lies just above one.
+// high × unit + low, divided by unit × 2 × half and rounded to the nearest integer. One less than the half is added, and 1 more where a half goes up,
+// from an odd quotient. That goes to the lower part, which is kept whole: it tells a half from what lies just above one. For constant powers of
+// two the compiler makes a few steps of it, and no branch, so that the time does not go with the number.
 pub fn near_parts(high: i64, low: i64, unit: i64, half: i64) -> i64
     requires { ⌜ (natAbs high + natAbs low < 2 ^ 62) × (natAbs low ≤ 2 ^ 61) ⌝ }
     requires { ⌜ pos 0 <ℤ unit ⌝ ∗ ⌜ unit ≤ℤ pos 65536 ⌝ ∗ ⌜ pos 0 <ℤ half ⌝ ∗ ⌜ half ≤ℤ pos (2 ^ 32) ⌝ }
@@ -70,7 +60,15 @@ pub fn near_parts(high: i64, low: i64, unit: i64, half: i64) -> i64
     floor_shift(floor_shift(raised, unit) + high, 2 * half)
 }
 
-// The same for a divisor that is no constant, with one division: a half is rounded up, and then down to the even number.
+// The same of a number in one part: a / (2 × half).
+pub fn near(a: i64, half: i64) -> i64
+    requires { ⌜ natAbs a ≤ 2 ^ 60 ⌝ ∗ ⌜ pos 0 <ℤ half ⌝ ∗ ⌜ half ≤ℤ pos (2 ^ 32) ⌝ }
+    ensures { λ r. ⌜ r ≡ near a (2 * natAbs half) ⌝ }
+{
+    near_parts(a, 0, 1, half)
+}
+
+// The same by any divisor, with one division where it is no constant: a half is rounded up, and then down to the even number.
 pub fn near_by(a: i64, b: i64) -> i64
     requires { ⌜ natAbs a ≤ 2 ^ 60 ⌝ ∗ ⌜ pos 0 <ℤ b ⌝ ∗ ⌜ b ≤ℤ pos (2 ^ 32) ⌝ }
     ensures { λ r. ⌜ r ≡ near a (natAbs b) ⌝ }

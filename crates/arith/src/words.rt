@@ -1,5 +1,6 @@
-// Words of a slice: the size of one, and whether it lies in a range.
+// Words of a slice: the size of one, whether it lies in a range, and the count of those that fail a test.
 
+ghost use mathlib.Core.Bool.{cond};
 ghost use mathlib.Core.Path.{_≡_};
 ghost use Prim.Native.Nat.{_^_, _≤_, _<_};
 ghost use lib.IntN.{natAbs};
@@ -32,4 +33,11 @@ pub fn word_between(words: &[i32], i: usize, lo: i32, hi: i32) -> bool
     ensures { λ r. ⌜ r ≡ within lo hi (at (now (words .entry)) i) ⌝ }
 {
     between(words[i], lo, hi)
+}
+
+// 1 where a test fails. A loop that counts these has no exit on the way, so that it takes several words at once.
+pub fn miss(holds: bool) -> u32
+    ensures { λ r. ⌜ (r ≡ cond holds 0 1) × (r ≤ 1) ⌝ }
+{
+    if holds { 0 } else { 1 }
 }

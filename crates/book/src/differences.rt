@@ -9,7 +9,7 @@ ghost use Rattle.arith.specs.Lists.{at};
 ghost use Rattle.arith.specs.Tests.{eqZ, every};
 ghost use Rattle.book.specs.Book.{sizesOf, bookLength};
 ghost use Rattle.book.specs.Check.{sizesInRange, coefficientsInRange, differencesRight};
-use crate::miss;
+use arith::words::miss;
 
 // Whether word `to` is word `next` less word `from`: 32 bits hold the difference of two impulses.
 fn word_right(book: &[i32], to: usize, next: usize, from: usize) -> bool

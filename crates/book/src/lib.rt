@@ -1,7 +1,6 @@
 // The filter book: five sizes, impulses and differences by phase, level taps and decimation taps, as signed words.
 // `check` accepts a book or gives the number that turns it away.
 
-ghost use mathlib.Core.Bool.{cond};
 ghost use mathlib.Core.Path.{_≡_};
 ghost use Prim.Native.Nat.{_≤_};
 ghost use lib.ListN.{length};
@@ -25,13 +24,6 @@ pub struct Sizes {
     pub decimation: usize,
     // F: points of a fade
     pub fade: usize,
-}
-
-// 1 where a test fails. A loop that counts these has no exit on the way, so that it takes several words at once.
-fn miss(holds: bool) -> u32
-    ensures { λ r. ⌜ (r ≡ cond holds 0 1) × (r ≤ 1) ⌝ }
-{
-    if holds { 0 } else { 1 }
 }
 
 // The sizes of a book that has them.

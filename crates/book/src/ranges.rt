@@ -6,7 +6,7 @@ ghost use Prim.Native.Nat.{_+_, _*_, _≤_};
 ghost use lib.ListN.{length};
 ghost use Rattle.book.specs.Book.{sizesOf, bookLength};
 ghost use Rattle.book.specs.Check.{powerOfTwo, sizesInRange, wordsInRange, coefficientsInRange};
-use crate::miss;
+use arith::words::miss;
 use arith::words::word_between;
 use arith::words::word_size;
 

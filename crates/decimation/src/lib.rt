@@ -100,7 +100,7 @@ fn sample(sum: i64) -> i16
     requires { ⌜ natAbs sum ≤ 2 ^ 44 ⌝ }
     ensures { λ r. ⌜ r ≡ sampleOf sum ⌝ }
 {
-    arith::limit16(arith::near(sum, 4194304) as i32)
+    arith::limit16(arith::near(sum, 2097152) as i32)
 }
 
 // Writes the output of a sum.

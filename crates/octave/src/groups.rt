@@ -73,7 +73,7 @@ fn write_words(sums: &[i64], store: &mut [i32], place: usize)
 {
     let mut j = 0;
     while j < sums.len() {
-        store[place + j] = arith::near(sums[j], 16384) as i32;
+        store[place + j] = arith::near(sums[j], 8192) as i32;
         j += 1;
     }
 }

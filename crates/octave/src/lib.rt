@@ -91,10 +91,10 @@ fn level_word(level: &[i32], taps: &[i32], n: usize) -> i32
     let reach = taps.len() - 1;
     if reach <= centre {
         if reach < level.len() - centre {
-            return arith::near(centred_sum(level, taps, centre), 16384) as i32;
+            return arith::near(centred_sum(level, taps, centre), 8192) as i32;
         }
     }
-    arith::near(edge_sum(level, taps, centre), 16384) as i32
+    arith::near(edge_sum(level, taps, centre), 8192) as i32
 }
 
 // Writes the level above the `words` words from place `start` on behind them.

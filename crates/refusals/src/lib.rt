@@ -3,6 +3,8 @@
 ghost use mathlib.Core.Path.{_≡_};
 ghost use Prim.Native.Nat.{_≤_};
 ghost use Rattle.refusals.specs.Refusals.{pointBound, levelsWrong, levelsNumber, fadeWrong, rateWrong, glideWrong, historyWrong, lateNumber, openNumber, orderNumber, seekNumber, playStateNumber, playNumber};
+use arith::words::miss;
+use arith::words::word_between;
 use control::Card;
 use control::Control;
 use control::Order;
@@ -91,14 +93,13 @@ fn glide_wrong(c: Control) -> bool
 fn history_wrong(history: [i32; 81]) -> bool
     ensures { λ r. ⌜ r ≡ historyWrong pointBound history ⌝ }
 {
+    let mut misses = 0;
     let mut k = 0;
     while k < 81 {
-        if 536870912 < arith::magnitude(history[k]) {
-            return true;
-        }
+        misses += miss(word_between(&history, k, -536870912, 536870912));
         k += 1;
     }
-    false
+    misses != 0
 }
 
 // 15, 16 and 17
