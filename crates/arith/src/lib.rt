@@ -68,7 +68,7 @@ pub fn near(a: i64, half: i64) -> i64
     near_parts(a, 0, 1, half)
 }
 
-// The same by any divisor, with one division where it is no constant: a half is rounded up, and then down to the even number.
+// The same by any divisor: a half is rounded up, and then down to the even number. A divisor that is no constant costs one division.
 pub fn near_by(a: i64, b: i64) -> i64
     requires { ⌜ natAbs a ≤ 2 ^ 60 ⌝ ∗ ⌜ pos 0 <ℤ b ⌝ ∗ ⌜ b ≤ℤ pos (2 ^ 32) ⌝ }
     ensures { λ r. ⌜ r ≡ near a (natAbs b) ⌝ }

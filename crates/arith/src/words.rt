@@ -1,12 +1,12 @@
-// Words of a slice: the size of one, whether it lies in a range, and the count of those that fail a test.
+// Words of a slice: the size of one, and whether one, or each of several, lies in a range.
 
 ghost use mathlib.Core.Bool.{cond};
 ghost use mathlib.Core.Path.{_≡_};
-ghost use Prim.Native.Nat.{_^_, _≤_, _<_};
+ghost use Prim.Native.Nat.{_+_, _^_, _≤_, _<_};
 ghost use lib.IntN.{natAbs};
 ghost use lib.ListN.{length};
 ghost use Rattle.arith.specs.Lists.{at};
-ghost use Rattle.arith.specs.Tests.{within};
+ghost use Rattle.arith.specs.Tests.{within, every};
 use crate::magnitude;
 
 // The absolute value of a word.
@@ -40,4 +40,18 @@ pub fn miss(holds: bool) -> u32
     ensures { λ r. ⌜ (r ≡ cond holds 0 1) × (r ≤ 1) ⌝ }
 {
     if holds { 0 } else { 1 }
+}
+
+// Whether each of the `count` words from place `from` on lies in lo..hi.
+pub fn words_between(words: &[i32], from: usize, count: usize, lo: i32, hi: i32) -> bool
+    requires { ⌜ (from + count ≤ length (now words)) × (count < 2 ^ 32) ⌝ }
+    ensures { λ r. ⌜ r ≡ every count (λ i. within lo hi (at (now (words .entry)) (from + i))) ⌝ }
+{
+    let mut misses = 0;
+    let mut i = 0;
+    while i < count {
+        misses += miss(word_between(words, from + i, lo, hi));
+        i += 1;
+    }
+    misses == 0
 }

@@ -6,9 +6,9 @@ ghost use Prim.Native.Nat.{_+_, _*_, _≤_};
 ghost use lib.ListN.{length};
 ghost use Rattle.book.specs.Book.{sizesOf, bookLength};
 ghost use Rattle.book.specs.Check.{powerOfTwo, sizesInRange, wordsInRange, coefficientsInRange};
-use arith::words::miss;
 use arith::words::word_between;
 use arith::words::word_size;
+use arith::words::words_between;
 
 fn power_of_two(m: usize) -> bool
     ensures { λ r. ⌜ r ≡ powerOfTwo m ⌝ }
@@ -68,13 +68,7 @@ fn words_in_range(book: &[i32], from: usize, count: usize) -> bool
     requires { ⌜ (from + count ≤ length (now book)) × (count ≤ 3072) ⌝ }
     ensures { λ r. ⌜ r ≡ wordsInRange (now (book .entry)) from count ⌝ }
 {
-    let mut misses = 0;
-    let mut i = 0;
-    while i < count {
-        misses += miss(word_between(book, from + i, -32768, 32767));
-        i += 1;
-    }
-    misses == 0
+    words_between(book, from, count, -32768, 32767)
 }
 
 // Number 4: the array of impulses, and the taps, which are all behind the array of differences.

@@ -3,8 +3,7 @@
 ghost use mathlib.Core.Path.{_≡_};
 ghost use Prim.Native.Nat.{_≤_};
 ghost use Rattle.refusals.specs.Refusals.{pointBound, levelsWrong, levelsNumber, fadeWrong, rateWrong, glideWrong, historyWrong, lateNumber, openNumber, orderNumber, seekNumber, playStateNumber, playNumber};
-use arith::words::miss;
-use arith::words::word_between;
+use arith::words::words_between;
 use control::Card;
 use control::Control;
 use control::Order;
@@ -93,13 +92,7 @@ fn glide_wrong(c: Control) -> bool
 fn history_wrong(history: [i32; 81]) -> bool
     ensures { λ r. ⌜ r ≡ historyWrong pointBound history ⌝ }
 {
-    let mut misses = 0;
-    let mut k = 0;
-    while k < 81 {
-        misses += miss(word_between(&history, k, -536870912, 536870912));
-        k += 1;
-    }
-    misses != 0
+    !words_between(&history, 0, 81, -536870912, 536870912)
 }
 
 // 15, 16 and 17

@@ -136,10 +136,10 @@ module _ (c : tie.After-excess) where
       ∙ ap₂ (λ p o. low start +ℤ (p -ℤ pos 1) +ℤ o) (product-is start) odd-is
 
   nearly-fits : SFits w64 nearly
-  nearly-fits = simp linear (omega (signed, simp linear at (product-small start), simp linear at odd-range))
+  nearly-fits = simp linear (omega (signed, simp linear at (product-small start)))
 
   added-fits : SFits w64 (low start +ℤ nearly)
-  added-fits = simp linear (omega (signed, simp linear at (product-small start), simp linear at (start .pre .0 .1), simp linear at odd-range))
+  added-fits = simp linear (omega (signed, simp linear at (product-small start), simp linear at (start .pre .0 .1)))
 
   small : natAbs raised ≤ 2 ^ 62
   small = simp linear (omega (signed, simp linear at (product-small start), simp linear at (start .pre .0 .1), simp linear at odd-range))
@@ -151,10 +151,10 @@ mul-raised : tie.Need-mul-raised
 mul-raised c = let s = start c in simp (reads, s .fits .half, s .fits .unit) (product-fits s)
 
 sub-raised : tie.Need-sub-raised
-sub-raised c = let s = start c in simp (reads, s .fits .half, s .fits .unit, product-fits s, odd-fits c) (nearly-fits c)
+sub-raised c = let s = start c in simp (reads, s .fits .half, s .fits .unit, product-fits s) (nearly-fits c)
 
 add-raised : tie.Need-add-raised
-add-raised c = let s = start c in simp (reads, s .fits .low, s .fits .half, s .fits .unit, product-fits s, odd-fits c, nearly-fits c) (added-fits c)
+add-raised c = let s = start c in simp (reads, s .fits .low, s .fits .half, s .fits .unit, product-fits s, nearly-fits c) (added-fits c)
 
 add-raised-2 : tie.Need-add-raised-2
 add-raised-2 c =
