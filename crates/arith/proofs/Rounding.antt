@@ -2,8 +2,8 @@
 -- nothing.
 use mathlib.Core.Path.{_≡_, sym, ap, _∙_}
 use mathlib.Core.Logic.{_⊎_, inl, inr}
-use Prim.Native.Nat.{ℕ, suc, _+_, _*_, _%_, _≤_, _<_}
-use native.Mathlib.Nat.{div-add-mod, mod-lt, mul-pos, mul-le-mul-right}
+use Prim.Native.Nat.{ℕ, suc, _+_, _*_, _/_, _%_, _≤_, _<_}
+use native.Mathlib.Nat.{div-add-mod, mod-lt, mul-pos}
 use native.Mathlib.Omega.{arith}
 use lib.IntN.{ℤ, pos, negsuc, natAbs, _+ℤ_, _-ℤ_, _*ℤ_, +ℤ-comm}
 use lib.Signed.{_≤ℤ_, _<ℤ_}
@@ -114,15 +114,19 @@ near-parts H L {u} {h} k l =
 
 -- how large both quotients by u are
 module _ (L : ℤ) {u : ℕ} (k : 0 < u) where
-  pub part-small : natAbs (floorDiv L u) ≤ natAbs L
-  part-small = floor-bound L k (natAbs L) (omega (arith, mul-le-mul-right (natAbs L) k))
+  -- one more than a quotient is enough for what a division leaves
+  room : natAbs L + 1 ≤ u * (natAbs L / u + 1)
+  room = omega (arith, div-add-mod (natAbs L) u, mod-lt (natAbs L) k)
 
-  pub raised-small : (h : ℕ) (n : ℤ) → natAbs (floorDiv (L +ℤ (pos (h * u) -ℤ pos 1) +ℤ oddOf n) u) ≤ natAbs L + 1 + h
+  pub part-small : natAbs (floorDiv L u) ≤ natAbs L / u + 1
+  part-small = floor-bound L k (natAbs L / u + 1) (omega (arith, room))
+
+  pub raised-small : (h : ℕ) (n : ℤ) → natAbs (floorDiv (L +ℤ (pos (h * u) -ℤ pos 1) +ℤ oddOf n) u) ≤ natAbs L / u + 1 + h
   raised-small h n =
       let x = L -ℤ pos 1 +ℤ oddOf n in
       let e : L +ℤ (pos (h * u) -ℤ pos 1) +ℤ oddOf n ≡ x +ℤ pos u *ℤ pos h = simp linear (omega arith) in
       let small : natAbs x ≤ natAbs L + 1 = simp linear (omega (arith, simp linear at (odd-small n))) in
-      let q : natAbs (floorDiv x u) ≤ natAbs L + 1 = floor-bound x k (natAbs L + 1) (omega (arith, small, mul-le-mul-right (natAbs L + 1) k)) in
+      let q : natAbs (floorDiv x u) ≤ natAbs L / u + 1 = floor-bound x k (natAbs L / u + 1) (omega (arith, small, room)) in
       rw (e, floor-+ x (pos h) k) (omega (arith, q, abs-triangle (floorDiv x u) (pos h)))
 
 -- ---- from a half that was taken up

@@ -2,7 +2,7 @@
 
 ghost use mathlib.Core.Path.{_≡_};
 ghost use mathlib.Core.Bool.{cond};
-ghost use Prim.Native.Nat.{_+_, _*_, _^_, _≤_, _<_};
+ghost use Prim.Native.Nat.{_+_, _*_, _/_, _^_, _≤_};
 ghost use lib.IntN.{pos, negsuc, natAbs, _+ℤ_, _-ℤ_, _*ℤ_};
 ghost use lib.Signed.{ltZ, _<ℤ_, _≤ℤ_};
 ghost use Rattle.arith.specs.Floor.{floorDiv, near};
@@ -51,7 +51,7 @@ fn floor_shift(a: i64, b: i64) -> i64
 // from an odd quotient. That goes to the lower part, which is kept whole: it tells a half from what lies just above one. For constant powers of
 // two the compiler makes a few steps of it, and no branch, so that the time does not go with the number.
 pub fn near_parts(high: i64, low: i64, unit: i64, half: i64) -> i64
-    requires { ⌜ (natAbs high + natAbs low < 2 ^ 62) × (natAbs low ≤ 2 ^ 61) ⌝ }
+    requires { ⌜ (natAbs high + natAbs low / natAbs unit + 2 ≤ 2 ^ 62) × (natAbs low ≤ 2 ^ 61) ⌝ }
     requires { ⌜ pos 0 <ℤ unit ⌝ ∗ ⌜ unit ≤ℤ pos 65536 ⌝ ∗ ⌜ pos 0 <ℤ half ⌝ ∗ ⌜ half ≤ℤ pos (2 ^ 32) ⌝ }
     ensures { λ r. ⌜ r ≡ near (pos (natAbs unit) *ℤ high +ℤ low) (natAbs unit * (2 * natAbs half)) ⌝ }
 {

@@ -124,16 +124,20 @@ pub fn level_bound(level: u32) -> i32
     }
 }
 
-// near((2^32 × impulses + offset × differences) / (2^14 × 2^32)). The sum has up to 76 bits, so it is made in two parts, the upper one in
-// 2^16.
+// near((2^32 × impulses + offset × differences) / (2^14 × 2^32)). The sum has up to 76 bits, so the offset is taken in two halves, and the sum is
+// made in two parts, the upper one in 2^16.
 pub fn mixed(impulses: i64, differences: i64, offset: u64) -> i64
     requires { ⌜ (natAbs impulses ≤ 2 ^ 44) × (natAbs differences ≤ 2 ^ 45) × (offset < 2 ^ 32) ⌝ }
     ensures { λ r. ⌜ r ≡ near (pos (2 ^ 32) *ℤ impulses +ℤ pos offset *ℤ differences) (16384 * 2 ^ 32) ⌝ }
 {
-    let e = offset as i64;
-    let high = differences >> 16;
-    let low = differences - high * 65536;
-    arith::near_parts(impulses * 65536 + e * high, e * low, 65536, 536870912)
+    let high = (offset / 65536) as i64;
+    let low = (offset % 65536) as i64;
+    arith::near_parts(
+        impulses * 65536 + high * differences,
+        low * differences,
+        65536,
+        536870912,
+    )
 }
 
 // The value of a level at a position. `words` are the level's words; the book has `phases` phases of `taps` taps.

@@ -3,7 +3,7 @@
 use borrow.Author.Needs.{needs}
 use mathlib.Core.Path.{_≡_, refl, sym, ap, ap₂, subst, _∙_}
 use native.Mathlib.Omega.{arith}
-use Prim.Native.Nat.{ℕ, _+_, _*_, _^_, _≤_, _<_}
+use Prim.Native.Nat.{ℕ, _+_, _*_, _/_, _^_, _≤_, _<_}
 use lib.IntN.{ℤ, pos, natAbs, _+ℤ_, _-ℤ_, _*ℤ_, +ℤ-comm}
 use lib.Signed.{_≤ℤ_}
 use mir.Syntax.{w64}
@@ -78,7 +78,7 @@ module _ (c : tie.After-floor-shift) where
   whole-small : natAbs (high (c .before) +ℤ part) ≤ 2 ^ 62
   whole-small =
       let s = c .before in
-      let small : natAbs part ≤ natAbs (low s) = rw part-is (part-small (low s) (u-some s)) in
+      let small : natAbs part ≤ natAbs (low s) / u s + 1 = rw part-is (part-small (low s) (u-some s)) in
       omega (arith, small, s .pre .0 .0, abs-triangle (high s) part)
 
   whole-fits : SFits w64 (high (c .before) +ℤ part)
@@ -189,7 +189,7 @@ module _ (c : tie.After-floor-shift3) where
   sum-small : natAbs (carried +ℤ high (start e)) ≤ 2 ^ 62 + 2 ^ 32
   sum-small =
       let s = start e in
-      let part : natAbs carried ≤ natAbs (low s) + 1 + h s = subst (λ x. natAbs x ≤ natAbs (low s) + 1 + h s) (sym carried-is) (raised-small (low s) (u-some s) (h s) (n s)) in
+      let part : natAbs carried ≤ natAbs (low s) / u s + 1 + h s = subst (λ x. natAbs x ≤ natAbs (low s) / u s + 1 + h s) (sym carried-is) (raised-small (low s) (u-some s) (h s) (n s)) in
       omega (arith, part, h-high s, s .pre .0 .0, abs-triangle carried (high s))
 
   sum-fits : SFits w64 (carried +ℤ high (start e))
