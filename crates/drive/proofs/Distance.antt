@@ -1,4 +1,5 @@
--- How far values, points and output sums lie from the exact player's (document 01, "The exact sum"), and how large the exact ones are.
+-- How far values, points and output sums lie from the exact player's (document 01, "The exact sum"), and how far apart the exact ones of
+-- two recordings lie.
 -- What is known of words, of the sum of a value and of the sum of an output comes in as hypotheses. No step gives anything away: the last
 -- one ends at the very distance that is allowed.
 use mathlib.Core.Path.{_≡_, sym, ap, _∙_}
@@ -20,7 +21,7 @@ use Rattle.points.specs.Points.{point}
 use Rattle.decimation.specs.Decimation.{outputSum}
 use Rattle.drive.specs.Demand.{CloseTo}
 use Rattle.drive.specs.Exact.{exactLevel, exactValue, exactPoint, pointScale, exactScale}
-use Rattle.drive.proofs.Scaled.{apart-times, apart-multiple, near-apart, fade-size, fade-close}
+use Rattle.drive.proofs.Scaled.{apart-times, apart-multiple, apart-factor, near-apart, fade-apart, fade-close}
 
 -- ---- powers: an exact value of level l is a whole number over 2^(15l + 34), brought to 2^(14T + 38) for all levels
 
@@ -37,13 +38,13 @@ common-scale T l below top =
     let e : 14 * (T - l) + (4 - l) + (15 * l + 34) ≡ 14 * T + 38 = omega arith in
     sym (pow-add 2 (14 * (T - l) + (4 - l)) (15 * l + 34)) ∙ ap (λ (n : ℕ). 2 ^ n) e
 
--- an exact value lies within ±2^(25 + l)
-value-size : (l : ℕ) → 65536 * unit l * 2 ^ (15 + 15 * l) ≡ 2 ^ (25 + l) * 2 ^ (15 * l + 34)
+-- coefficients of at most 2^16 together, over the unit, and words 2^(15l) times as large as samples: 2^(10 + l) times a sample
+value-size : (l : ℕ) → 65536 * unit l * 2 ^ (15 * l) ≡ 2 ^ (10 + l) * 2 ^ (15 * l + 34)
 unfolding unit
 value-size l =
-    let e : 16 + (28 + l) + (15 + 15 * l) ≡ 25 + l + (15 * l + 34) = omega arith in
-    ap (λ (n : ℕ). n * 2 ^ (15 + 15 * l)) (sym (pow-add 2 16 (28 + l))) ∙ sym (pow-add 2 (16 + (28 + l)) (15 + 15 * l))
-    ∙ ap (λ (n : ℕ). 2 ^ n) e ∙ pow-add 2 (25 + l) (15 * l + 34)
+    let e : 16 + (28 + l) + 15 * l ≡ 10 + l + (15 * l + 34) = omega arith in
+    ap (λ (n : ℕ). n * 2 ^ (15 * l)) (sym (pow-add 2 16 (28 + l))) ∙ sym (pow-add 2 (16 + (28 + l)) (15 * l))
+    ∙ ap (λ (n : ℕ). 2 ^ n) e ∙ pow-add 2 (10 + l) (15 * l + 34)
 
 unit-pos : (l : ℕ) → 0 < 16384 * unit l
 unfolding unit
@@ -119,7 +120,7 @@ module _ (b samples store : List ℤ) (T : ℕ) (top : T ≤ 4)
       (fade-close (sizesOf b .fade) (p .step) inside (2 ^ (14 * T + 38)) (value-at (p .old)) (value-at (p .new)) (exact-at (p .old)) (exact-at (p .new)) Z some
       (value-close (p .old) P from) (value-close (p .new) P to) (eqb (p .step) 0))
 
-output-scale : (b : List ℤ) (T : ℕ) → exactScale b T ≡ pointScale b T * 2 ^ 22
+pub output-scale : (b : List ℤ) (T : ℕ) → exactScale b T ≡ pointScale b T * 2 ^ 22
 unfolding exactScale pointScale
 output-scale b T =
     let e : 14 * T + 60 ≡ 14 * T + 38 + 22 = omega arith in
@@ -140,30 +141,34 @@ output-sum-close b T sum-apart h e points-close =
     let all-roundings : Z + 2 ≡ 4 * 2 ^ T = omega (arith, pow-add 2 T 2, pow-pos T) in
     rw (output-scale b T) (omega (arith, near-apart s (2 ^ 22) O E (32768 * (s * Z)) (omega arith) summed, ap (λ (n : ℕ). s * n) all-roundings))
 
--- ---- how large
+-- ---- two recordings x and y: how far apart their exact values and points lie. How large one is, is how far c = 1 times it lies from d = 0 times it
 
-module _ (b samples : List ℤ) (T : ℕ) (top : T ≤ 4)
-    (sum-size : (w : ℤ → ℤ) (X l P : ℕ) → ((i : ℤ) → natAbs (w i) ≤ X) → natAbs (valueSum b w l P) ≤ 65536 * unit l * X)
-    (words-size : (l : ℕ) → l ≤ T → (i : ℤ) → natAbs (wordAt (exactLevel (levelTaps b) samples l) i) ≤ 2 ^ (15 + 15 * l)) where
-  -- ±2^(25 + l), so at most ±2^29
-  pub exactValue-bound : (l P : ℕ) → l ≤ T → natAbs (exactValue b samples T l P) ≤ 2 ^ 29 * 2 ^ (14 * T + 38)
+module _ (b x y : List ℤ) (T : ℕ) (top : T ≤ 4) (c d : ℤ) (X : ℕ)
+    (sum-apart : (c d : ℤ) (w w′ : ℤ → ℤ) (X l P : ℕ) → ((i : ℤ) → natAbs (c *ℤ w i -ℤ d *ℤ w′ i) ≤ X)
+    → natAbs (c *ℤ valueSum b w l P -ℤ d *ℤ valueSum b w′ l P) ≤ 65536 * unit l * X)
+    (words-apart : (l : ℕ) (i : ℤ) → natAbs (c *ℤ exactWord b x l i -ℤ d *ℤ exactWord b y l i) ≤ 2 ^ (15 * l) * X) where
+  -- 2^(10 + l) times as far as the samples, so at most 2^(10 + T) times
+  exactValue-apart : (l P : ℕ) → l ≤ T → natAbs (c *ℤ exactValue b x T l P -ℤ d *ℤ exactValue b y T l P) ≤ 2 ^ (10 + T) * X * 2 ^ (14 * T + 38)
   unfolding exactValue
-  exactValue-bound l P below =
+  exactValue-apart l P below =
       let k = 2 ^ (14 * (T - l) + (4 - l)) in
       let s = 2 ^ (15 * l + 34) in
-      let sized = rw (value-size l) at (sum-size (exactWord b samples l) (2 ^ (15 + 15 * l)) l P (words-size l below)) in
-      let no-more : 2 ^ (25 + l) ≤ 2 ^ 29 = pow-mono {i = 25 + l} {j = 29} (omega arith) in
-      let small : natAbs (exactSum b samples l P) ≤ 2 ^ 29 * s = le-trans sized (mul-le-mul-right s no-more) in
-      rw (← common-scale T l below top, abs-pos-*) (omega (arith, mul-le-mul-left k small))
+      let apart = c *ℤ exactSum b x l P -ℤ d *ℤ exactSum b y l P in
+      let sums : natAbs apart ≤ 65536 * unit l * (2 ^ (15 * l) * X) = sum-apart c d (exactWord b x l) (exactWord b y l) (2 ^ (15 * l) * X) l P (words-apart l) in
+      let sized : natAbs apart ≤ 2 ^ (10 + l) * (s * X) = omega (arith, sums, ap (λ (n : ℕ). n * X) (value-size l)) in
+      let no-more : 2 ^ (10 + l) ≤ 2 ^ (10 + T) = pow-mono {i = 10 + l} {j = 10 + T} (omega arith) in
+      let small = le-trans sized (mul-le-mul-right (s * X) no-more) in
+      rw (apart-factor (pos k) c d (exactSum b x l P) (exactSum b y l P), ← common-scale T l below top, abs-pos-*) (omega (arith, mul-le-mul-left k small))
 
-  -- a mean is no larger
-  pub exactPoint-bound : (p : Plan) → p .old ≤ T → p .new ≤ T → p .step ≤ sizesOf b .fade → natAbs (exactPoint b samples T p) ≤ 2 ^ 29 * pointScale b T
+  -- a mean brings nothing further apart
+  pub exactPoint-apart : (p : Plan) → p .old ≤ T → p .new ≤ T → p .step ≤ sizesOf b .fade
+      → natAbs (c *ℤ exactPoint b x T p -ℤ d *ℤ exactPoint b y T p) ≤ 2 ^ (10 + T) * X * pointScale b T
   unfolding exactPoint pointScale
-  exactPoint-bound p from to inside =
+  exactPoint-apart p from to inside =
       let P = p .position in
-      let exact-at : ℕ → ℤ = λ l. exactValue b samples T l P in
-      omega (
-        arith,
-        fade-size (sizesOf b .fade) (p .step) inside (exact-at (p .old)) (exact-at (p .new)) (2 ^ 29 * 2 ^ (14 * T + 38))
-            (exactValue-bound (p .old) P from) (exactValue-bound (p .new) P to) (eqb (p .step) 0),
-      )
+      let of-x : ℕ → ℤ = λ l. exactValue b x T l P in
+      let of-y : ℕ → ℤ = λ l. exactValue b y T l P in
+      let mean =
+      fade-apart (sizesOf b .fade) (p .step) inside c d (of-x (p .old)) (of-x (p .new)) (of-y (p .old)) (of-y (p .new)) (2 ^ (10 + T) * X * 2 ^ (14 * T + 38))
+      (exactValue-apart (p .old) P from) (exactValue-apart (p .new) P to) (eqb (p .step) 0) in
+      omega (arith, mean)

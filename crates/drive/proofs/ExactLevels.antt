@@ -1,5 +1,5 @@
--- The levels that are built and the exact ones: both are equally long, exact words stay bounded, and a built word lies near the exact
--- one. Word n of level j is at (levelOf h x j) n as built, and at (exactLevel h x j) n × 2^8 / 2^(14j) exactly. Assumes nothing.
+-- The levels that are built and the exact ones: both are equally long, a built word lies near the exact one, and the exact words of two
+-- recordings lie at most so far apart. Word n of level j is at (levelOf h x j) n as built, and at (exactLevel h x j) n × 2^8 / 2^(14j) exactly. Assumes nothing.
 use mathlib.Core.Path.{_≡_, refl, ap, _∙_}
 use mathlib.Core.List.{List}
 use Prim.Native.Nat.{ℕ, zero, suc, _+_, _*_, _-_, _/_, _^_, _≤_, _<_, pred}
@@ -12,10 +12,9 @@ use lib.Pow.{pow-add, pow-pos}
 use Rattle.arith.specs.Floor.{near}
 use Rattle.arith.specs.Lists.{at, wordAt}
 use Rattle.arith.proofs.Linear.{linear, abs-pos-*}
-use Rattle.arith.proofs.Ring.{products, terms}
 use Rattle.arith.proofs.Integers.{abs-triangle, abs-*-≤}
 use Rattle.arith.proofs.Floor.{near-close}
-use Rattle.arith.proofs.Lists.{at-outside, wordAt-bound, length-tabulate, getD-tabulate}
+use Rattle.arith.proofs.Lists.{at-outside, length-tabulate, getD-tabulate}
 use Rattle.arith.proofs.Sum.{sumAround-ext, sumAround-abs-*, sumAround-linear}
 use Rattle.book.specs.Check.{tapSum}
 use Rattle.octave.specs.Octave.{halfLength, levelSum, levelWord}
@@ -23,14 +22,10 @@ use Rattle.store.specs.Sizes.{levelLength}
 use Rattle.levels.specs.Levels.{levelOf}
 use Rattle.levels.proofs.Laws.{length-level, at-first}
 use Rattle.octave.proofs.Octave.{at-next}
-use Rattle.book.proofs.Around.{around-bound}
 use Rattle.drive.specs.Exact.{exactLevel}
+use Rattle.drive.proofs.Scaled.{apart-factor}
 
 -- ---- sums over taps
-
--- a tap is a common factor of both words
-tapped-apart : (t c d v w : ℤ) → c *ℤ (t *ℤ v) -ℤ d *ℤ (t *ℤ w) ≡ t *ℤ (c *ℤ v -ℤ d *ℤ w)
-tapped-apart t c d v w = simp products (simp terms (omega arith))
 
 module _ (h : List ℤ) (small : tapSum h ≤ 32768) where
   -- two levels' sums lie at most 2^15 times as far apart as their words
@@ -44,13 +39,8 @@ module _ (h : List ℤ) (small : tapSum h ≤ 32768) where
       let apart : ℤ → ℤ = λ k. c *ℤ word k -ℤ d *ℤ word′ k in
       rw (
         sumAround-linear A c d (λ k. at h (natAbs k) *ℤ word k) (λ k. at h (natAbs k) *ℤ word′ k),
-        sumAround-ext A {g = λ k. at h (natAbs k) *ℤ apart k} (λ k l. tapped-apart (at h (natAbs k)) c d (word k) (word′ k)),
+        sumAround-ext A {g = λ k. at h (natAbs k) *ℤ apart k} (λ k l. apart-factor (at h (natAbs k)) c d (word k) (word′ k)),
       ) (le-trans (sumAround-abs-* A (at h) apart X (λ k l. close (pos (2 * n) +ℤ k))) (mul-le-mul small (le-refl X)))
-
-  -- a level's sums are at most 2^15 times as large as its words
-  levelSum-bound : (level : List ℤ) (c : ℕ) → ((k : ℕ) → natAbs (at level k) ≤ c) → (n : ℕ) → natAbs (levelSum h level n) ≤ 32768 * c
-  unfolding levelSum
-  levelSum-bound level c bound n = around-bound h level (2 * n) small c bound (length h) (le-refl (length h))
 
 -- ---- the exact levels
 
@@ -85,21 +75,37 @@ module _ (h x : List ℤ) where
   built-outside : (j k : ℕ) → ¬ (k < levelLength (length x) j) → at (levelOf h x j) k ≡ pos 0
   built-outside j k l = at-outside (levelOf h x j) k (omega (arith, length-level h x j))
 
-module _ (h x : List ℤ) (small : tapSum h ≤ 32768) where
-  -- each exact level is at most 2^15 times as large as the one below it
-  pub exact-bound : ((k : ℕ) → natAbs (at x k) ≤ 2 ^ 15) → (j k : ℕ) → natAbs (at (exactLevel h x j) k) ≤ 2 ^ (15 + 15 * j)
-  exact-bound bound zero k = rw (exact-first h x) (bound k)
-  exact-bound bound (suc j) k = go (decLe (suc k) (levelLength (length x) (suc j))) (exact-bound bound j)
+-- ---- what holds of the words of two levels at each place holds at any index: words outside are 0
+
+words-both : (R : ℤ → ℤ → Type 0) (xs ys : List ℤ) → R (pos 0) (pos 0) → ((k : ℕ) → R (at xs k) (at ys k)) → (i : ℤ) → R (wordAt xs i) (wordAt ys i)
+unfolding wordAt
+words-both R xs ys none each (pos k) = each k
+words-both R xs ys none each (negsuc k) = none
+
+-- ---- the exact levels of two recordings: each lies at most 2^15 times as far apart as the one below it
+
+module _ (h x y : List ℤ) (small : tapSum h ≤ 32768) (same : length x ≡ length y) (c d : ℤ) (X : ℕ) (close : (k : ℕ) → natAbs (c *ℤ at x k -ℤ d *ℤ at y k) ≤ X) where
+  abbrev Apart : ℕ → ℤ → ℤ → Type 0
+  Apart j v w = natAbs (c *ℤ v -ℤ d *ℤ w) ≤ 2 ^ (15 * j) * X
+
+  none-apart : (j : ℕ) → Apart j (pos 0) (pos 0)
+  none-apart j = simp linear (omega arith)
+
+  exact-apart : (j k : ℕ) → Apart j (at (exactLevel h x j) k) (at (exactLevel h y j) k)
+  exact-apart zero k = rw (exact-first h x, exact-first h y) (omega (arith, close k))
+  exact-apart (suc j) k = go (decLe (suc k) (levelLength (length x) (suc j))) (words-both (Apart j) (exactLevel h x j) (exactLevel h y j) (none-apart j) (exact-apart j))
     where
-      go : Dec (k < levelLength (length x) (suc j)) → ((i : ℕ) → natAbs (at (exactLevel h x j) i) ≤ 2 ^ (15 + 15 * j)) → natAbs (at (exactLevel h x (suc j)) k) ≤ 2 ^ (15 + 15 * suc j)
+      go : Dec (k < levelLength (length x) (suc j)) → ((i : ℤ) → Apart j (wordAt (exactLevel h x j) i) (wordAt (exactLevel h y j) i))
+          → Apart (suc j) (at (exactLevel h x (suc j)) k) (at (exactLevel h y (suc j)) k)
       go (yes l) below =
-          let e : 15 + 15 * suc j ≡ (15 + 15 * j) + 15 = omega arith in
-          rw (exact-inside h x j k l, e, pow-add 2 (15 + 15 * j) 15) (omega (arith, levelSum-bound h small (exactLevel h x j) (2 ^ (15 + 15 * j)) below k))
-      go (no l) below = rw (exact-outside h x (suc j) k l) (omega arith)
+          let e : 15 * suc j ≡ 15 + 15 * j = omega arith in
+          rw (exact-inside h x j k l, exact-inside h y j k (rw same at l), e, pow-add 2 15 (15 * j))
+          (omega (arith, levelSum-apart h small c d (exactLevel h x j) (exactLevel h y j) (2 ^ (15 * j) * X) below k))
+      go (no l) below = rw (exact-outside h x (suc j) k l, exact-outside h y (suc j) k (rw same at l)) (none-apart (suc j))
 
   -- the same at any index
-  pub exact-word-bound : ((k : ℕ) → natAbs (at x k) ≤ 2 ^ 15) → (j : ℕ) (i : ℤ) → natAbs (wordAt (exactLevel h x j) i) ≤ 2 ^ (15 + 15 * j)
-  exact-word-bound bound j = wordAt-bound (exactLevel h x j) (2 ^ (15 + 15 * j)) (exact-bound bound j)
+  pub exact-word-apart : (j : ℕ) (i : ℤ) → Apart j (wordAt (exactLevel h x j) i) (wordAt (exactLevel h y j) i)
+  exact-word-apart j = words-both (Apart j) (exactLevel h x j) (exactLevel h y j) (none-apart j) (exact-apart j)
 
 -- ---- how far apart built and exact words lie
 
@@ -118,17 +124,18 @@ step-close c d w s s′ rounded brought =
       abs-pos-* 2 carry,
     ))
 
--- words outside a level are 0, so that what holds of all words holds of those read at any index
-words-close : (c d : ℤ) (xs ys : List ℤ) (b : ℕ) → ((k : ℕ) → 2 * natAbs (c *ℤ at xs k -ℤ d *ℤ at ys k) ≤ b) → (i : ℤ) → 2 * natAbs (c *ℤ wordAt xs i -ℤ d *ℤ wordAt ys i) ≤ b
-unfolding wordAt
-words-close c d xs ys b close (pos k) = close k
-words-close c d xs ys b close (negsuc k) = simp linear (omega arith)
+-- word v of level j as built, and w of the exact one
+abbrev pub WordClose : ℕ → ℤ → ℤ → Type 0
+WordClose j v w = 2 * natAbs (pos (2 ^ (14 * j)) *ℤ v -ℤ pos 256 *ℤ w) ≤ 2 ^ (14 * j) * (2 ^ j - 1)
+
+none-close : (j : ℕ) → WordClose j (pos 0) (pos 0)
+none-close j = simp linear (omega arith)
 
 module _ (h x : List ℤ) (small : tapSum h ≤ 32768) where
   -- a level adds half a unit of rounding to at most twice the distance of the level below: 1 + 2 · (2^j − 1) is 2^(j+1) − 1
-  pub level-close : (j k : ℕ) → 2 * natAbs (pos (2 ^ (14 * j)) *ℤ at (levelOf h x j) k -ℤ pos 256 *ℤ at (exactLevel h x j) k) ≤ 2 ^ (14 * j) * (2 ^ j - 1)
+  level-close : (j k : ℕ) → WordClose j (at (levelOf h x j) k) (at (exactLevel h x j) k)
   level-close zero k = rw (exact-first h x, built-first h x k) (simp linear (omega arith))
-  level-close (suc j) k = go (decLe (suc k) (levelLength (length x) (suc j))) (words-close (pos c) (pos 256) W X (c * (2 ^ j - 1)) (level-close j))
+  level-close (suc j) k = go (decLe (suc k) (levelLength (length x) (suc j))) (words-both (WordClose j) W X (none-close j) (level-close j))
     where
       c : ℕ
       c = 2 ^ (14 * j)
@@ -139,8 +146,7 @@ module _ (h x : List ℤ) (small : tapSum h ≤ 32768) where
       X : List ℤ
       X = exactLevel h x j
 
-      go : Dec (k < levelLength (length x) (suc j)) → ((i : ℤ) → 2 * natAbs (pos c *ℤ wordAt W i -ℤ pos 256 *ℤ wordAt X i) ≤ c * (2 ^ j - 1))
-          → 2 * natAbs (pos (2 ^ (14 * suc j)) *ℤ at (levelOf h x (suc j)) k -ℤ pos 256 *ℤ at (exactLevel h x (suc j)) k) ≤ 2 ^ (14 * suc j) * (2 ^ suc j - 1)
+      go : Dec (k < levelLength (length x) (suc j)) → ((i : ℤ) → WordClose j (wordAt W i) (wordAt X i)) → WordClose (suc j) (at (levelOf h x (suc j)) k) (at (exactLevel h x (suc j)) k)
       go (yes l) below =
           let e : 14 * suc j ≡ 14 * j + 14 = omega arith in
           let f : 2 ^ suc j - 1 ≡ 1 + 2 * (2 ^ j - 1) = omega (arith, pow-pos j) in
@@ -148,8 +154,8 @@ module _ (h x : List ℤ) (small : tapSum h ≤ 32768) where
           (step-close c (2 ^ j - 1) (near (levelSum h W k) 16384) (levelSum h W k) (levelSum h X k)
           (near-close (levelSum h W k) {b = 16384} (omega arith))
           (levelSum-apart h small (pos c) (pos 256) W X (c * (2 ^ j - 1) / 2) (λ i. omega (arith, below i)) k))
-      go (no l) below = rw (built-outside h x (suc j) k l, exact-outside h x (suc j) k l) (simp linear (omega arith))
+      go (no l) below = rw (built-outside h x (suc j) k l, exact-outside h x (suc j) k l) (none-close (suc j))
 
   -- the same at any index
-  pub word-close : (j : ℕ) (i : ℤ) → 2 * natAbs (pos (2 ^ (14 * j)) *ℤ wordAt (levelOf h x j) i -ℤ pos 256 *ℤ wordAt (exactLevel h x j) i) ≤ 2 ^ (14 * j) * (2 ^ j - 1)
-  word-close j = words-close (pos (2 ^ (14 * j))) (pos 256) (levelOf h x j) (exactLevel h x j) (2 ^ (14 * j) * (2 ^ j - 1)) (level-close j)
+  pub word-close : (j : ℕ) (i : ℤ) → WordClose j (wordAt (levelOf h x j) i) (wordAt (exactLevel h x j) i)
+  word-close j = words-both (WordClose j) (levelOf h x j) (exactLevel h x j) (none-close j) (level-close j)

@@ -1,10 +1,13 @@
-pub mod ExactLevels
 pub mod Contraction
 pub mod Scaled
+pub mod ExactLevels
 pub mod Distance
-pub mod Related
+pub mod Settings
+pub mod Alike
 pub mod Calls
-pub mod Closeness
+pub mod Players
+pub mod Steps
+pub mod Related
 pub mod Cuts
 pub mod Theorem
 pub mod Instance

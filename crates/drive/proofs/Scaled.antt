@@ -7,6 +7,7 @@ use native.Mathlib.Omega.{arith}
 use lib.IntN.{ℤ, pos, natAbs, _+ℤ_, _-ℤ_, _*ℤ_}
 use Rattle.arith.specs.Floor.{near}
 use Rattle.arith.proofs.Linear.{linear, poly, abs-pos-*}
+use Rattle.arith.proofs.Ring.{products, terms}
 use Rattle.arith.proofs.Integers.{abs-triangle, *ℤ-assoc}
 use Rattle.arith.proofs.Floor.{near-close}
 
@@ -19,6 +20,10 @@ apart-multiple n s x y =
 -- the same of two scales
 pub apart-times : (n s d : ℕ) (x y : ℤ) → natAbs (pos (n * s) *ℤ x -ℤ pos (n * d) *ℤ y) ≡ n * natAbs (pos s *ℤ x -ℤ pos d *ℤ y)
 apart-times n s d x y = rw (*ℤ-assoc (pos n) (pos d) y) (apart-multiple n s x (pos d *ℤ y))
+
+-- the same of any two numbers that are subtracted
+pub apart-factor : (n c d x y : ℤ) → c *ℤ (n *ℤ x) -ℤ d *ℤ (n *ℤ y) ≡ n *ℤ (c *ℤ x -ℤ d *ℤ y)
+apart-factor n c d x y = simp products (simp terms (omega arith))
 
 -- by way of a third number
 pub apart-by : (x y z : ℤ) → natAbs (x -ℤ z) ≤ natAbs (x -ℤ y) + natAbs (y -ℤ z)
@@ -56,10 +61,20 @@ module _ (F i : ℕ) (inside : i ≤ F) where
   weights : F - i + i ≡ F
   weights = omega arith
 
-  pub fade-size : (x′ y′ : ℤ) (X : ℕ) → natAbs x′ ≤ X → natAbs y′ ≤ X
-      → (t : Bool) → natAbs (cond t (pos F *ℤ x′) (pos (F - i) *ℤ x′ +ℤ pos i *ℤ y′)) ≤ F * X
-  fade-size x′ y′ X h k true = rw abs-pos-* (mul-le-mul-left F h)
-  fade-size x′ y′ X h k false = omega (arith, rw weights at (weighted-size 1 (F - i) i x′ y′ X (omega arith) (omega arith)))
+  -- a mean is no larger, and two means lie no further apart, than what they are made of
+  fade-size : (x y : ℤ) (X : ℕ) → natAbs x ≤ X → natAbs y ≤ X → (t : Bool) → natAbs (cond t (pos F *ℤ x) (pos (F - i) *ℤ x +ℤ pos i *ℤ y)) ≤ F * X
+  fade-size x y X h k true = rw abs-pos-* (mul-le-mul-left F h)
+  fade-size x y X h k false = omega (arith, rw weights at (weighted-size 1 (F - i) i x y X (omega arith) (omega arith)))
+
+  pub fade-apart : (c d x y x′ y′ : ℤ) (X : ℕ) → natAbs (c *ℤ x -ℤ d *ℤ x′) ≤ X → natAbs (c *ℤ y -ℤ d *ℤ y′) ≤ X → (t : Bool)
+      → natAbs (c *ℤ cond t (pos F *ℤ x) (pos (F - i) *ℤ x +ℤ pos i *ℤ y) -ℤ d *ℤ cond t (pos F *ℤ x′) (pos (F - i) *ℤ x′ +ℤ pos i *ℤ y′)) ≤ F * X
+  fade-apart c d x y x′ y′ X h k t = rw (linear-in t) (fade-size (c *ℤ x -ℤ d *ℤ x′) (c *ℤ y -ℤ d *ℤ y′) X h k t)
+    where
+      linear-in : (t : Bool)
+          → c *ℤ cond t (pos F *ℤ x) (pos (F - i) *ℤ x +ℤ pos i *ℤ y) -ℤ d *ℤ cond t (pos F *ℤ x′) (pos (F - i) *ℤ x′ +ℤ pos i *ℤ y′)
+          ≡ cond t (pos F *ℤ (c *ℤ x -ℤ d *ℤ x′)) (pos (F - i) *ℤ (c *ℤ x -ℤ d *ℤ x′) +ℤ pos i *ℤ (c *ℤ y -ℤ d *ℤ y′))
+      linear-in true = apart-factor (pos F) c d x x′
+      linear-in false = simp products (simp terms (omega arith))
 
   -- a fade's own rounding adds 1 to twice the distance
   pub fade-close : (s : ℕ) (x y x′ y′ : ℤ) (Z : ℕ) → 0 < F → 2 * natAbs (pos s *ℤ x -ℤ x′) ≤ s * Z → 2 * natAbs (pos s *ℤ y -ℤ y′) ≤ s * Z
