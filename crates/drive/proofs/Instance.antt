@@ -3,7 +3,7 @@
 use mathlib.Core.Bool.{true}
 use mathlib.Core.List.{List, [], _∷_}
 use mathlib.Core.Path.{_≡_, refl}
-use Prim.Native.Nat.{ℕ, zero, suc}
+use Prim.Native.Nat.{ℕ}
 use lib.Ieee.{binary32, ofBits}
 use lib.IntN.{ℤ, pos, negsuc}
 use lib.ListN.{replicate}
@@ -36,6 +36,7 @@ use Rattle.player.specs.Calls.{zeroVoice, freshVoice, openAnswer, orderAnswer, 
 use Rattle.drive.specs.Exact.{exactScale, exactFresh}
 use Rattle.drive.specs.Lists.{Call, order, seek, play, callVoice, callSamples, handedOut, exactSums}
 use Rattle.drive.specs.Demand.{Setting, storeOf, Close}
+use Rattle.drive.proofs.Settings.{at-every-place}
 use Rattle.drive.proofs.Theorem.{demand3}
 
 abbrev pub book : List ℤ
@@ -56,10 +57,8 @@ abbrev pub calls : List Call
 calls = play (replicate 2 (pos 0)) ∷ order (Jump (ofBits binary32 0x4000_0000)) ∷ play (replicate 2 (pos 7)) ∷ seek 0 ∷ play (pos 0 ∷ []) ∷ []
 
 sample-fits : (k : ℕ) → within (negsuc 32767) (pos 32767) (at recording k) ≡ true
-sample-fits zero = refl
-sample-fits (suc zero) = refl
-sample-fits (suc (suc zero)) = refl
-sample-fits (suc (suc (suc k))) = refl
+unfolding every
+sample-fits = at-every-place (within (negsuc 32767) (pos 32767)) recording refl refl
 
 -- none of the hypotheses is impossible
 pub setting : Setting book recording card

@@ -1,14 +1,19 @@
 -- What a setting gives: of its book, its T, its samples, and how large exact points are. Assumes nothing.
+use mathlib.Core.Bool.{Bool, true}
 use mathlib.Core.List.{List}
 use mathlib.Core.Path.{_≡_, refl}
 use Prim.Native.Nat.{ℕ, _+_, _*_, _^_, _≤_, _<_}
 use native.Mathlib.Nat.{le-trans, mul-pos, mul-le-mul-right}
+use native.Mathlib.Decide.{decLt}
 use native.Mathlib.Omega.{arith}
 use lib.IntN.{ℤ, pos, natAbs, _-ℤ_, _*ℤ_}
+use lib.ListN.{length}
 use lib.Pow.{pow-add, pow-pos, pow-mono}
 use Rattle.arith.specs.Lists.{at}
+use Rattle.arith.specs.Tests.{every}
 use Rattle.arith.proofs.Linear.{linear}
-use Rattle.arith.proofs.Tests.{within-half}
+use Rattle.arith.proofs.Lists.{at-outside}
+use Rattle.arith.proofs.Tests.{within-half, every-at}
 use Rattle.book.specs.Book.{sizesOf, levelTaps}
 use Rattle.book.specs.Check.{tapSum}
 use Rattle.book.proofs.Accepted.{Accepted, accepted, sizes-bounded, levelTaps-sum}
@@ -21,6 +26,14 @@ use Rattle.drive.specs.Lists.{exactBound}
 use Rattle.drive.specs.Demand.{Setting}
 use Rattle.drive.proofs.Distance.{exactPoint-apart}
 use Rattle.drive.proofs.ExactLevels.{exact-word-apart}
+
+-- a test that holds at each place of a recording, and of 0, holds at every place
+pub at-every-place : (test : ℤ → Bool) (samples : List ℤ) → test (pos 0) ≡ true → every (length samples) (λ k. test (at samples k)) ≡ true → (k : ℕ) → test (at samples k) ≡ true
+at-every-place test samples none all k = go (decLt k (length samples))
+  where
+    go : Dec (k < length samples) → test (at samples k) ≡ true
+    go (yes h) = every-at (length samples) (λ i. test (at samples i)) all k h
+    go (no h) = rw (at-outside samples k (omega arith)) none
 
 module _ {b samples : List ℤ} {card : Card} (setting : Setting b samples card) where
   pub right : Accepted b
