@@ -33,7 +33,7 @@ use renderer::Edition;
 
 /// The edition of the product: document 01 with the requests of document 02 up to
 /// this one.
-pub const EDITION: Edition = Edition::G;
+pub const EDITION: Edition = Edition::H;
 
 /// The edition before request (g): halves are rounded up. What it gives differently
 /// shows that a tie was met.

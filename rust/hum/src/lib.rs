@@ -4,7 +4,8 @@
 //! gear's stronger than the rest, over a soft noise of bearings; both swell and
 //! sink a little with the shaft's turns. The loudest sample is half of full
 //! scale, which leaves the room that interpolation asks for (source document
-//! 002, 4.1.2). It begins and ends in silence.
+//! 002, 4.1.2). It begins and ends in silence. Another take of it has the same motor
+//! and another noise.
 //!
 //! The same samples come out each time and on every machine: the noise is a
 //! congruential generator's, and sines are made of sums and products, whose
@@ -76,10 +77,10 @@ fn turn() -> Vec<f64> {
     values
 }
 
-/// Numbers from -1 up to below 1.
-fn noise() -> impl Iterator<Item = f64> {
+/// Numbers from -1 up to below 1, which begin elsewhere in each take.
+fn noise(take: u32) -> impl Iterator<Item = f64> {
     let next = |state: &u32| Some(state.wrapping_mul(1_664_525).wrapping_add(1_013_904_223));
-    let states = std::iter::successors(next(&1), next);
+    let states = std::iter::successors(next(&take), next);
     states.map(|state| f64::from(state) / f64::from(1u32 << 31) - 1.0)
 }
 
@@ -94,10 +95,10 @@ fn ramp(n: usize) -> f64 {
     (n as f64 / RAMP).min(to_end / RAMP).min(1.0)
 }
 
-/// The samples of the hum.
-pub fn samples() -> Vec<i16> {
+/// The samples of a take of the hum.
+pub fn samples(take: u32) -> Vec<i16> {
     let turn = turn();
-    let values: Vec<f64> = noise()
+    let values: Vec<f64> = noise(take)
         .take(SAMPLE_COUNT)
         .enumerate()
         .map(|(n, noise)| (turn[n % TURN] + NOISE * noise) * swell(n) * ramp(n))
@@ -108,8 +109,8 @@ pub fn samples() -> Vec<i16> {
     values.iter().map(sample).collect()
 }
 
-/// The hum as a 16-bit mono PCM WAV file.
-pub fn wav() -> Vec<u8> {
+/// A take of the hum as a 16-bit mono PCM WAV file.
+pub fn wav(take: u32) -> Vec<u8> {
     let data = 2 * SAMPLE_COUNT as u32;
     let mut bytes = b"RIFF".to_vec();
     bytes.extend((36 + data).to_le_bytes());
@@ -118,7 +119,7 @@ pub fn wav() -> Vec<u8> {
     bytes.extend((2 * SAMPLE_RATE).to_le_bytes());
     bytes.extend(b"\x02\0\x10\0data"); // 2 bytes and 16 bits a sample
     bytes.extend(data.to_le_bytes());
-    bytes.extend(samples().iter().flat_map(|sample| sample.to_le_bytes()));
+    bytes.extend(samples(take).iter().flat_map(|sample| sample.to_le_bytes()));
     bytes
 }
 
@@ -138,16 +139,18 @@ mod tests {
     #[test]
     fn the_same_bytes_everywhere() {
         let mix = |hash: u64, byte: &u8| (hash ^ u64::from(*byte)).wrapping_mul(0x100_0000_01b3);
-        let hash = wav().iter().fold(0xcbf2_9ce4_8422_2325, mix);
+        let hash = wav(1).iter().fold(0xcbf2_9ce4_8422_2325, mix);
         assert_eq!(hash, 0x5163_a2f8_9257_199f);
     }
 
     #[test]
     fn half_of_full_scale_from_silence_to_silence() {
-        let samples = samples();
-        assert_eq!(samples.len(), SAMPLE_COUNT);
-        let loudest = samples.iter().map(|sample| sample.unsigned_abs()).max();
-        assert_eq!(loudest, Some(16384));
-        assert_eq!((samples[0], samples[SAMPLE_COUNT - 1]), (0, 0));
+        for take in [1, 2, u32::MAX] {
+            let samples = samples(take);
+            assert_eq!(samples.len(), SAMPLE_COUNT);
+            let loudest = samples.iter().map(|sample| sample.unsigned_abs()).max();
+            assert_eq!(loudest, Some(16384));
+            assert_eq!((samples[0], samples[SAMPLE_COUNT - 1]), (0, 0));
+        }
     }
 }

@@ -74,7 +74,7 @@ fn the_example_flow() {
         folder.path("hum.store"),
         folder.path("out.wav"),
     );
-    fs::write(&hum, hum::wav()).unwrap();
+    fs::write(&hum, hum::wav(1)).unwrap();
     let (book, drive) = (examples.join("book/book.txt"), examples.join("drive.txt"));
     assert_eq!(accepted(&run!("check", book)), "accepted\n");
     let built = run!("build", book, hum, "2", store);

@@ -8,6 +8,7 @@ mod check;
 mod examples;
 mod files;
 mod hum;
+mod moved;
 #[allow(dead_code)] // the command's tests link no archive by its path
 #[path = "../places/mod.rs"]
 mod places;

@@ -101,7 +101,7 @@ fn the_text_of_the_drive_report() {
     tone::test_hum(0, &mut samples);
     let stage = Stage::new(&book, &samples, 2);
     let (whole, decimal) = two_languages();
-    let expected = drive_report(Edition::G, whole.as_bytes());
+    let expected = drive_report(Edition::H, whole.as_bytes());
     let output = stage.report("1", &decimal);
     assert_eq!(String::from_utf8(output.stdout).unwrap(), expected);
     for seen in ["refused\n", " 0\n", " 1\n", " 2\n"] {

@@ -11,6 +11,7 @@ fn help_and_version() {
             "tone build BOOK RECORDING.wav T STORE\n",
             "tone play BOOK STORE RATE DRIVE OUT.wav\n",
             "tone report BOOK STORE RATE DRIVE [--html OUT.html]\n",
+            "tone moved BOOK OLD.wav NEW.wav T [RATE DRIVE]\n",
             "tone hum COUNT OUT.wav\n",
             "--sample-rate",
             "Exit status",
@@ -47,19 +48,30 @@ fn wrong_usage() {
     ];
     unusable(&run!("report", "a", "b", "1"), &report);
     unusable(&run!("report", "a", "b", "1", "d", "o"), &report);
+    let moved = [
+        "wrong count",
+        "tone moved BOOK OLD.wav NEW.wav T [RATE DRIVE]:",
+    ];
+    unusable(&run!("moved", "a", "b", "c"), &moved);
+    unusable(&run!("moved", "a", "b", "c", "1", "1"), &moved);
+    unusable(&run!("moved", "a", "b", "c", "1", "1", "d", "o"), &moved);
     unusable(&run!("check", "--fast", "a"), &["no option --fast"]);
     unusable(&run!("check", "--fast=3", "a"), &["no option --fast=3"]);
-    for name in ["check", "build", "play", "hum", "tune"] {
+    for name in ["check", "build", "play", "moved", "hum", "tune"] {
         let html = ["--html goes with tone report"];
         unusable(&run!(name, "--html", "o"), &html);
         unusable(&run!(name, "--html=o"), &html);
     }
-    for name in ["check", "build", "report"] {
+    for name in ["check", "build", "report", "moved"] {
         let output = run!(name, "--sample-rate", "8000", "a");
         unusable(&output, &["goes with tone play and tone hum"]);
     }
     unusable(
         &run!("build", "a", "b", "two", "s"),
+        &["T", "\"two\"", "whole number"],
+    );
+    unusable(
+        &run!("moved", "a", "b", "c", "two"),
         &["T", "\"two\"", "whole number"],
     );
     unusable(

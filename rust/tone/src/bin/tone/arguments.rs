@@ -37,6 +37,13 @@ tone: the driving-tone player, for studios and fitters
         --html OUT.html    also writes a sheet to print, which shows the level,
                            the fades and what they cost over time, and each call
 
+    tone moved BOOK OLD.wav NEW.wav T [RATE DRIVE]
+        How far the tone moves where a recording is replaced by another of the
+        same length. Prints D, the largest difference of two samples at the same
+        place, and by how much no sample of any drive from their stores can move,
+        in steps of 16 bits; with RATE and DRIVE also the largest difference that
+        this drive has. Samples and outputs are counted from 0.
+
     tone hum COUNT OUT.wav
         Writes the first COUNT samples of the test hum, which anyone can make
         again: from state 0 on, the next state is 1664525 x state + 1013904223,
@@ -46,13 +53,13 @@ tone: the driving-tone player, for studios and fitters
     tone --help, tone --version
 
 T is 0..4, S is 1..1048576, and RATE is a decimal from 1/16 up to below 2^(T+1),
-T being STORE's; it is rounded to the nearest 32-bit float, which is the rate
-that is played.
+T being STORE's where there is one; it is rounded to the nearest 32-bit float,
+which is the rate that is played.
 
 BOOK           a text of decimal words, blanks or line ends between them: N, M,
                A, B, F, the impulses, the differences, the level taps and the
                decimation taps. Lines that begin with # are comments.
-RECORDING.wav  a 16-bit mono PCM WAV file.
+RECORDING.wav  a 16-bit mono PCM WAV file; so are OLD.wav and NEW.wav.
 STORE          32-bit words in two's complement, lowest byte first: S, T, the
                lengths of the levels 0..T, then these levels one after another.
                Words after the levels are not looked at.
@@ -92,6 +99,8 @@ pub enum Request {
     Play(PlayRequest),
     /// `tone report`
     Report(ReportRequest),
+    /// `tone moved`
+    Moved(MovedRequest),
     /// `tone hum`
     Hum(HumRequest),
 }
@@ -163,6 +172,30 @@ pub struct ReportRequest {
     pub setting: Setting,
     /// OUT.html
     pub html: Option<PathBuf>,
+}
+
+/// `tone moved BOOK OLD.wav NEW.wav T`
+#[derive(Debug)]
+pub struct MovedRequest {
+    /// BOOK
+    pub book: PathBuf,
+    /// OLD.wav
+    pub old: PathBuf,
+    /// NEW.wav
+    pub new: PathBuf,
+    /// T
+    pub top: u32,
+    /// RATE DRIVE
+    pub drive: Option<OpenedDrive>,
+}
+
+/// `RATE DRIVE`: a drive and the rate that it begins at.
+#[derive(Debug)]
+pub struct OpenedDrive {
+    /// RATE
+    pub rate: f32,
+    /// DRIVE
+    pub path: PathBuf,
 }
 
 /// `tone hum COUNT OUT.wav`
@@ -256,14 +289,26 @@ fn request(command: &OsStr, operands: &[OsString], given: &Given) -> Result<Requ
             setting: Setting::read([book, store, rate, drive])?,
             html: given.html.clone(),
         })),
+        (Some("moved"), [book, old, new, top, drive @ ..]) if matches!(drive.len(), 0 | 2) => {
+            Ok(Request::Moved(MovedRequest {
+                book: book.into(),
+                old: old.into(),
+                new: new.into(),
+                top: top_level(top)?,
+                drive: opened_drive(drive)?,
+            }))
+        }
         (Some("hum"), [count, out]) => Ok(Request::Hum(HumRequest {
             count: number("COUNT", count)?,
             out: out.into(),
             sample_rate,
         })),
-        (Some(name @ ("check" | "build" | "play" | "report" | "hum")), _) => Err(misused(
-            &format!("wrong count of arguments, usage is {}", usage(name)),
-        )),
+        (Some(name @ ("check" | "build" | "play" | "report" | "moved" | "hum")), _) => {
+            Err(misused(&format!(
+                "wrong count of arguments, usage is {}",
+                usage(name)
+            )))
+        }
         _ => Err(misused(&format!("no command {}", command.display()))),
     }
 }
@@ -305,6 +350,17 @@ fn number(name: &str, text: &OsString) -> Result<u64, Failure> {
 
 fn top_level(text: &OsString) -> Result<u32, Failure> {
     Ok(u32::try_from(number("T", text)?).unwrap_or(u32::MAX))
+}
+
+/// A rate and a drive, or neither.
+fn opened_drive(operands: &[OsString]) -> Result<Option<OpenedDrive>, Failure> {
+    match operands {
+        [rate, path] => Ok(Some(OpenedDrive {
+            rate: opening_rate(rate)?,
+            path: path.into(),
+        })),
+        _ => Ok(None),
+    }
 }
 
 fn opening_rate(text: &OsString) -> Result<f32, Failure> {

@@ -55,13 +55,13 @@ pub fn lines(text: &str) -> impl Iterator<Item = Line<'_>> {
     numbered.filter(|line| !line.text.is_empty() && !line.text.starts_with('#'))
 }
 
-/// The lines of a text with their calls, or the first line that is none and what
-/// is wrong with it.
-pub fn calls(text: &str) -> Result<Vec<(Line<'_>, Call)>, (Line<'_>, String)> {
+/// The lines of a file's text with their calls, or the first line that is none and
+/// what is wrong with it.
+pub fn calls<'a>(text: &'a str, path: &Path) -> Result<Vec<(Line<'a>, Call)>, Failure> {
     lines(text)
         .map(|line| match line.call() {
             Ok(call) => Ok((line, call)),
-            Err(fault) => Err((line, fault)),
+            Err(fault) => Err(Failure::unusable(line.place(path), fault)),
         })
         .collect()
 }
@@ -130,7 +130,7 @@ mod tests {
     #[test]
     fn every_kind_of_line() {
         let text = "# a drive\n\njump 1.5\n\tglide 2 48000 \r\nseek 268435456\nplay 20\nplay 0";
-        let calls = calls(text).unwrap();
+        let calls = calls(text, Path::new("drive.txt")).unwrap();
         let read: Vec<(usize, Call)> = calls
             .iter()
             .map(|(line, call)| (line.number, *call))
@@ -170,8 +170,8 @@ mod tests {
         ];
         for line in bad {
             let text = format!("play 1\n\n{line}\nplay 1\n");
-            let (found, _) = calls(&text).unwrap_err();
-            assert_eq!((found.number, found.text), (3, line));
+            let failure = calls(&text, Path::new("drive.txt")).unwrap_err();
+            assert!(failure.to_string().starts_with("tone: drive.txt:3: "));
             assert_eq!(lines(&text).count(), 3, "the reader of lines goes on");
         }
     }

@@ -1,13 +1,14 @@
 //! The command `tone`, for studios and fitters: tests filter books, builds the
-//! octave levels of recordings, plays drives into WAV files, reports on drives, and
-//! makes the test hum. Every call is the library's, and a refusal is shown with its
-//! number.
+//! octave levels of recordings, plays drives into WAV files, reports on drives, says
+//! how far another recording moves the tone, and makes the test hum. Every call is
+//! the library's, and a refusal is shown with its number.
 //!
 //! ```text
 //! tone check BOOK
 //! tone build BOOK RECORDING.wav T STORE
 //! tone play BOOK STORE RATE DRIVE OUT.wav
 //! tone report BOOK STORE RATE DRIVE [--html OUT.html]
+//! tone moved BOOK OLD.wav NEW.wav T [RATE DRIVE]
 //! tone hum COUNT OUT.wav
 //! ```
 //!
@@ -23,6 +24,7 @@ mod fades;
 mod failure;
 #[allow(unsafe_code)]
 mod interrupt;
+mod moved;
 mod output;
 mod player;
 mod progress;
@@ -65,6 +67,7 @@ fn run() -> Result<(), Failure> {
         Request::Build(request) => build(&request),
         Request::Play(request) => play(&request),
         Request::Report(request) => report::report(&request),
+        Request::Moved(request) => moved::moved(&request),
         Request::Hum(request) => hum(&request),
     }
 }
@@ -87,23 +90,29 @@ fn check(request: &CheckRequest) -> Result<(), Failure> {
 fn build(request: &BuildRequest) -> Result<(), Failure> {
     let book = words::read_book(&request.book)?;
     let samples = wav::read_file(&request.recording)?;
-    // Where S or T is outside its range there is no length to make room for:
-    // the call says so, if the book does not come first.
-    let words = tone::store_words(samples.len(), request.top).unwrap_or(0);
-    let mut store = vec![0; words];
     let mut progress = Progress::new();
     progress.show(format_args!("building {} samples", samples.len()));
-    tone::build(&book, &samples, request.top, &mut store)
-        .map_err(|refusal| Failure::refused("build", refusal))?;
+    let store = built_store(&book, &samples, request.top)?;
     let mut output = Output::create(&request.store, &[&request.book, &request.recording])?;
     output.write_with(|file| words::write_store(file, &store))?;
     output.finish()?;
     drop(progress);
     say(format_args!(
-        "S {}, T {}: {words} words\n",
+        "S {}, T {}: {} words\n",
         samples.len(),
-        request.top
+        request.top,
+        store.len()
     ))
+}
+
+/// The store of a recording.
+fn built_store(book: &[i32], samples: &[i16], top: u32) -> Result<Vec<i32>, Failure> {
+    // Where S or T is outside its range there is no length to make room for:
+    // the call says so, if the book does not come first.
+    let mut store = vec![0; tone::store_words(samples.len(), top).unwrap_or(0)];
+    tone::build(book, samples, top, &mut store)
+        .map_err(|refusal| Failure::refused("build", refusal))?;
+    Ok(store)
 }
 
 fn play(request: &PlayRequest) -> Result<(), Failure> {
@@ -111,12 +120,11 @@ fn play(request: &PlayRequest) -> Result<(), Failure> {
     let book = words::read_book(&setting.book)?;
     let store = words::read_store(&setting.store)?;
     let text = drive::read_file(&setting.drive)?;
-    let calls = drive::calls(&text)
-        .map_err(|(line, fault)| Failure::unusable(line.place(&setting.drive), fault))?;
+    let calls = drive::calls(&text, &setting.drive)?;
     let outputs = drive::outputs(calls.iter().map(|(_, call)| *call));
     let header = wav::Header::new(request.sample_rate, outputs)
         .map_err(|fault| Failure::unusable(setting.drive.display(), fault))?;
-    let mut player = Player::open(&book, &store, setting)?;
+    let mut player = Player::open(&book, &store, &setting.store, setting.rate)?;
     let mut output = Output::create(&request.out, &setting.inputs())?;
     output.write_with(|file| header.write(file))?;
     let mut progress = Progress::new();

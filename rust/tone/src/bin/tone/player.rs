@@ -1,8 +1,9 @@
 //! Playing a drive's calls, in parts so short that each fade is seen.
 
+use std::path::Path;
+
 use tone::{Refusal, Voice, MOST_OUTPUTS};
 
-use crate::arguments::Setting;
 use crate::drive::Call;
 use crate::fades::{longest_play, Fade, Place};
 use crate::failure::Failure;
@@ -28,18 +29,19 @@ pub struct Player<'a> {
 }
 
 impl<'a> Player<'a> {
-    /// Opens the voice for the store, which is tested first: T stands in it. The
-    /// book is tested here by a play of no outputs, which changes nothing,
-    /// rather than at the first play.
+    /// Opens the voice at a rate for the store, which is tested first: T stands in
+    /// it, and a refusal names its file. The book is tested here by a play of no
+    /// outputs, which changes nothing, rather than at the first play.
     pub fn open(
         book: &'a [i32],
         store: &'a [i32],
-        setting: &Setting,
+        store_file: &Path,
+        rate: f32,
     ) -> Result<Player<'a>, Failure> {
         let refused = |refusal| Failure::refused("opening", refusal);
         let top = tone::top_level(store)
-            .map_err(|refusal| Failure::refused_store(&setting.store, refusal))?;
-        let mut voice = Voice::open(setting.rate, top).map_err(refused)?;
+            .map_err(|refusal| Failure::refused_store(store_file, refusal))?;
+        let mut voice = Voice::open(rate, top).map_err(refused)?;
         voice.play(book, store, &mut []).map_err(refused)?;
         Ok(Player {
             voice,
@@ -185,13 +187,7 @@ mod tests {
         let book = book(fade_points);
         let mut store = vec![0; tone::store_words(3, TOP).unwrap()];
         tone::build(&book, &[0, 1000, 2000], TOP, &mut store).unwrap();
-        let setting = Setting {
-            book: "book".into(),
-            store: "store".into(),
-            rate: 1.0,
-            drive: "drive".into(),
-        };
-        let mut player = Player::open(&book, &store, &setting).unwrap();
+        let mut player = Player::open(&book, &store, Path::new("store"), 1.0).unwrap();
         player.shorten_parts(part);
         let (mut fades, mut levels, mut points) = (Vec::new(), Vec::new(), 0);
         for (rate, outputs) in orders(fade_points) {

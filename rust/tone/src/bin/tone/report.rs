@@ -89,7 +89,7 @@ pub fn report(request: &ReportRequest) -> Result<(), Failure> {
     let book = words::read_book(&setting.book)?;
     let store = words::read_store(&setting.store)?;
     let text = drive::read_file(&setting.drive)?;
-    let player = Player::open(&book, &store, setting)?;
+    let player = Player::open(&book, &store, &setting.store, setting.rate)?;
     let html = request.html.as_ref();
     let output = html.map(|path| Output::create(path, &setting.inputs()));
     let output = output.transpose()?;
