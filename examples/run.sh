@@ -1,14 +1,14 @@
 #!/usr/bin/env bash
 # From nothing to sound: proves the level builder and the player, writes their archives, builds the command `tone`, makes the example hum
-# and its store, plays examples/drive.txt into target/drive.wav and writes the sheet of its report, target/drive.html. What is proved already
-# is not proved again, but for the two archives' own thin crates.
+# and its store, plays examples/drive.txt into target/drive.wav, writes the sheet of its report, target/drive.html, and says how far another
+# take of the hum would move that drive. What is proved already is not proved again, but for the two archives' own thin crates.
 set -euo pipefail
 cd "$(dirname "${BASH_SOURCE[0]}")/.."
 
 readonly archives=(tone_builder tone)
 readonly programs=rust/target/release
 readonly book=examples/book/book.txt drive=examples/drive.txt
-readonly hum=target/hum.wav store=target/hum.store sound=target/drive.wav sheet=target/drive.html
+readonly hum=target/hum.wav take=target/take2.wav store=target/hum.store sound=target/drive.wav sheet=target/drive.html
 readonly top=2 rate=1 hertz=48000
 
 fail() { printf 'run.sh: %s\n' "$*" >&2; exit 1; }
@@ -54,8 +54,11 @@ played=$("$programs/tone" play "$book" "$store" "$rate" "$drive" "$sound" --samp
 outputs=${BASH_REMATCH[1]} fades=${BASH_REMATCH[2]} mean=${BASH_REMATCH[3]}
 reported=$("$programs/tone" report "$book" "$store" "$rate" "$drive" --html "$sheet" | tail -n 1)
 [[ $reported =~ ^total\ $outputs\ [0-9]+$ ]] || fail "tone report says: $reported"
+"$programs/hum" "$take" 2
+moved=$("$programs/tone" moved "$book" "$hum" "$take" "$top" "$rate" "$drive")
 
 printf '\nhum:   %s samples in %s\n' "$samples" "$hum"
 printf 'store: levels 0 to %s, %s words, in %s\n' "$top" "$words" "$store"
 printf 'drive: %s outputs of %s, %d.%02d seconds of sound at %s Hz, %s fades, %s multiplies per output\n' "$outputs" "$drive" $((outputs / hertz)) $((outputs % hertz * 100 / hertz)) "$hertz" "$fades" "$mean"
+printf 'With another take of the hum, %s:\n%s\n' "$take" "$moved"
 printf 'Listen to %s, print %s\n' "$PWD/$sound" "$PWD/$sheet"

@@ -8,6 +8,7 @@ use tone::Voice;
 use crate::bench::{
     accepted, error_text, example_book, examples, python, store_of, wav_of, Folder,
 };
+use crate::places::repository;
 
 #[test]
 fn the_example_book_is_accepted() {
@@ -101,4 +102,19 @@ fn the_example_flow() {
     };
     assert!(samples.chunks(1000).all(|block| loudest(block) > 1000));
     assert!(loudest(&samples) < 32767);
+}
+
+/// What README shows of `tone moved`, for the example drive and two takes of the hum.
+#[test]
+fn another_take_of_the_hum() {
+    let folder = Folder::new();
+    let takes = [1, 2].map(|take| folder.write(&format!("take{take}.wav"), hum::wav(take)));
+    let (book, drive) = (
+        examples().join("book/book.txt"),
+        examples().join("drive.txt"),
+    );
+    let moved = run!("moved", book, takes[0], takes[1], "2", "1", drive);
+    let named = accepted(&moved).replace(&drive.display().to_string(), "examples/drive.txt");
+    let readme = fs::read_to_string(repository().join("README.md")).unwrap();
+    assert!(readme.contains(&named), "{named}");
 }
