@@ -39,40 +39,46 @@ impl Apart {
     }
 }
 
-/// What holds for every drive: no two samples differ by more than
-/// 8 x 2^T x D + (126 + 4 x 2^T)/128.
-#[derive(Clone, Copy, Debug, PartialEq, Eq)]
-struct Bound {
+/// 8 x 2^T x D + (126 + 4 x 2^T)/128, in 1/128 of one 16-bit step: no two samples of
+/// any drive differ by more.
+fn bound(top: u32, difference: u16) -> u64 {
+    128 * (8 << top) * u64::from(difference) + 126 + (4 << top)
+}
+
+/// All that is said.
+struct Moved<'a> {
     /// T
     top: u32,
-    /// D
-    difference: u16,
+    recordings: Apart,
+    /// DRIVE, and what it plays from both.
+    drive: Option<(&'a Path, Apart)>,
 }
 
-impl Bound {
-    /// In 1/128 of one 16-bit step.
-    fn parts(self) -> u64 {
-        128 * (8 << self.top) * u64::from(self.difference) + 126 + (4 << self.top)
+impl Moved<'_> {
+    fn write_recordings(&self, f: &mut fmt::Formatter<'_>) -> fmt::Result {
+        let Apart {
+            steps,
+            place,
+            count,
+        } = self.recordings;
+        match steps {
+            0 => writeln!(f, "The recordings are equal, all {count} samples: D = 0."),
+            _ => writeln!(
+                f,
+                "The recordings differ by at most {steps} steps of 16 bits, \
+                 first at sample {place} of {count}: D = {steps}."
+            ),
+        }
     }
 
-    /// In 16-bit steps; each is a sum of powers of two that an f64 holds.
-    fn steps(self) -> f64 {
-        self.parts() as f64 / 128.0
-    }
-
-    /// The most whole steps, which is what samples differ by.
-    fn whole(self) -> u64 {
-        self.parts() / 128
-    }
-}
-
-impl fmt::Display for Bound {
-    fn fmt(&self, f: &mut fmt::Formatter<'_>) -> fmt::Result {
-        let Bound { top, difference } = self;
-        if *difference == 0 {
+    /// The bound has at most seven decimals, and is printed with all that it has.
+    fn write_bound(&self, f: &mut fmt::Formatter<'_>) -> fmt::Result {
+        let (top, difference) = (self.top, self.recordings.steps);
+        if difference == 0 {
             return writeln!(f, "No sample of any drive moves.");
         }
-        let (steps, whole) = (self.steps(), self.whole());
+        let parts = bound(top, difference);
+        let (steps, whole) = (parts as f64 / 128.0, parts / 128);
         writeln!(
             f,
             "No sample of any drive moves by more than {steps} steps: \
@@ -85,68 +91,59 @@ impl fmt::Display for Bound {
     }
 }
 
+impl fmt::Display for Moved<'_> {
+    fn fmt(&self, f: &mut fmt::Formatter<'_>) -> fmt::Result {
+        self.write_recordings(f)?;
+        self.write_bound(f)?;
+        let Some((
+            path,
+            Apart {
+                steps,
+                place,
+                count,
+            },
+        )) = self.drive
+        else {
+            return Ok(());
+        };
+        let path = path.display();
+        match steps {
+            0 => writeln!(f, "In {path} none of {count} outputs moves."),
+            _ => writeln!(
+                f,
+                "In {path} the most is {steps} steps, first at output {place} of {count}."
+            ),
+        }
+    }
+}
+
 /// Says D, the bound, and what a drive has.
 pub fn moved(request: &MovedRequest) -> Result<(), Failure> {
+    let top = request.top;
     let book = words::read_book(&request.book)?;
     let old = wav::read_file(&request.old)?;
     let new = wav::read_file(&request.new)?;
     if old.len() != new.len() {
-        let counts = format!(
-            "{} samples, and {} has {}",
-            new.len(),
-            request.old.display(),
-            old.len()
-        );
-        return Err(Failure::unusable(request.new.display(), counts));
+        let (first, count) = (request.old.display(), old.len());
+        let why = format!("{} samples, and {first} has {count}", new.len());
+        return Err(Failure::unusable(request.new.display(), why));
     }
-    let stores = [
-        built_store(&book, &old, request.top)?,
-        built_store(&book, &new, request.top)?,
-    ];
     let mut recordings = Apart::default();
     recordings.add(&old, &new);
-    let driven = match &request.drive {
+    let stores = [
+        built_store(&book, &old, top)?,
+        built_store(&book, &new, top)?,
+    ];
+    let drive = match &request.drive {
         None => None,
-        Some(drive) => Some((drive, compare(&book, &stores, request, drive)?)),
+        Some(drive) => Some((&*drive.path, compare(&book, &stores, request, drive)?)),
     };
-    say_recordings(recordings)?;
-    let bound = Bound {
-        top: request.top,
-        difference: recordings.steps,
-    };
-    say(format_args!("{bound}"))?;
-    driven.map_or(Ok(()), |(drive, tones)| say_drive(&drive.path, tones))
-}
-
-fn say_recordings(recordings: Apart) -> Result<(), Failure> {
-    let Apart {
-        steps,
-        place,
-        count,
-    } = recordings;
-    match steps {
-        0 => say(format_args!("The recordings are equal, all {count} samples: D = 0.\n")),
-        _ => say(format_args!(
-            "The recordings differ by at most {steps} steps of 16 bits, first at sample {place} of {count}: D = {steps}.\n"
-        )),
-    }
-}
-
-fn say_drive(drive: &Path, tones: Apart) -> Result<(), Failure> {
-    let (
+    let moved = Moved {
+        top,
+        recordings,
         drive,
-        Apart {
-            steps,
-            place,
-            count,
-        },
-    ) = (drive.display(), tones);
-    match steps {
-        0 => say(format_args!("In {drive} none of {count} outputs moves.\n")),
-        _ => say(format_args!(
-            "In {drive} the most is {steps} steps, first at output {place} of {count}.\n"
-        )),
-    }
+    };
+    say(format_args!("{moved}"))
 }
 
 /// Plays a drive from both stores, call by call.
@@ -165,9 +162,9 @@ fn compare(
     for (done, (line, call)) in calls.iter().enumerate() {
         interrupt::test()?;
         let refused = |refusal| Failure::refused(&line.place(&drive.path), refusal);
-        let played = [&mut old, &mut new].map(|player| player.perform(*call, |_| ()));
-        let [old, new] = played;
-        tones.add(old.map_err(refused)?, new.map_err(refused)?);
+        let old = old.perform(*call, |_| ()).map_err(refused)?;
+        let new = new.perform(*call, |_| ()).map_err(refused)?;
+        tones.add(old, new);
         progress.show(format_args!("{} of {} calls", done + 1, calls.len()));
     }
     Ok(tones)
