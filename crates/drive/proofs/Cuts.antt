@@ -17,7 +17,7 @@ use Rattle.player.specs.Outputs.{voiceAfter, outputs}
 use Rattle.player.proofs.Blocks.{length-outputs}
 use Rattle.player.proofs.Filled.{voiceAfter-+}
 use Rattle.drive.specs.Lists.{Call, order, seek, play, callNumber, callVoice, callSamples, endVoice, handedOut, Mark, isPlay, marks}
-use Rattle.drive.proofs.Calls.{refused-voice, refused-samples, played-voice, played-samples, ordered-samples, sought-samples}
+use Rattle.drive.proofs.Players.{Player, player}
 
 -- ---- a list made by a rule, in two parts
 
@@ -62,7 +62,7 @@ module _ (b store : List ℤ) where
         → Does v c
 
   does : (v : Voice) (c : Call) → Does v c
-  unfolding marks isPlay voiceAfter outputs tabulate
+  unfolding marks isPlay voiceAfter outputs tabulate player
   does v c = go c (ℕ-discrete (callNumber b store v c) 0)
     where
       unmarked : (c : Call) → (callNumber b store v c ≡ 0 → ⊥) → (n : ℕ) (calls : List Call) → marks b store v n (c ∷ calls) ≡ laterMarks v c n calls
@@ -71,10 +71,10 @@ module _ (b store : List ℤ) where
       unmarked (play words) h n calls = refl
 
       go : (c : Call) → Dec (callNumber b store v c ≡ 0) → Does v c
-      go (order o) (yes h) = acts (ordered-samples b store v o) (λ n calls. rw h)
-      go (seek P) (yes h) = acts (sought-samples b store v P) (λ n calls. rw h)
-      go (play words) (yes h) = makes (length words) (played-voice b store v words h) (played-samples b store v words h) (λ n calls. refl)
-      go c (no h) = makes 0 (refused-voice b store v c h) (refused-samples b store v c h) (unmarked c h)
+      go (order o) (yes h) = acts (player b store .ordered-by v o h .1) (λ n calls. rw h)
+      go (seek P) (yes h) = acts (player b store .sought-by v P h .1) (λ n calls. rw h)
+      go (play words) (yes h) = let played = player b store .played-by v words h in makes (length words) (played .0) (played .1) (λ n calls. refl)
+      go c (no h) = let refused = player b store .refused v c h in makes 0 (refused .0) (refused .1) (unmarked c h)
 
   -- ---- a list is the replay of its marks
 

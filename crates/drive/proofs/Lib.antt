@@ -4,7 +4,6 @@ pub mod ExactLevels
 pub mod Distance
 pub mod Settings
 pub mod Alike
-pub mod Calls
 pub mod Players
 pub mod Steps
 pub mod Related

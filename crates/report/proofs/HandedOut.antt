@@ -15,7 +15,7 @@ use Rattle.player.specs.declared.Answer.{Answer}
 use Rattle.player.specs.Calls.{orderAnswer, seekAnswer, playAnswer}
 use Rattle.player.specs.Outputs.{outputs}
 use Rattle.drive.specs.Lists.{Call, order, seek, play, callNumber, callVoice, callSamples, handedOut, endVoice}
-use Rattle.drive.proofs.Calls.{refused-voice}
+use Rattle.drive.proofs.Players.{refused-call}
 use Rattle.drive_text.specs.declared.Line.{Line}
 use Rattle.drive_text.specs.declared.Line.the-variants.{Jump, Glide, Seek, Play, Other}
 use Rattle.drive_text.specs.Calls.{lineOf}
@@ -49,9 +49,9 @@ module _ (b store : List ℤ) where
 
   line-shows : (v : Voice) (plays : ℕ) (line : Line) → Shows v (lineReport b store v plays line) (callsOf line)
   unfolding lineReport handedOut endVoice callNumber callSamples callVoice sum
-  line-shows v plays (Jump a) = answered v (orderAnswer v (JumpTo (rate a))) _ refl (λ e. refused-voice b store v (order (JumpTo (rate a))) (eqb-false _ 0 e))
-  line-shows v plays (Glide a c) = answered v (orderAnswer v (GlideTo (rate a) c)) _ refl (λ e. refused-voice b store v (order (GlideTo (rate a) c)) (eqb-false _ 0 e))
-  line-shows v plays (Seek p) = answered v (seekAnswer v p) _ refl (λ e. refused-voice b store v (seek p) (eqb-false _ 0 e))
+  line-shows v plays (Jump a) = answered v (orderAnswer v (JumpTo (rate a))) _ refl (λ e. refused-call b store v (order (JumpTo (rate a))) (eqb-false _ 0 e) .0)
+  line-shows v plays (Glide a c) = answered v (orderAnswer v (GlideTo (rate a) c)) _ refl (λ e. refused-call b store v (order (GlideTo (rate a) c)) (eqb-false _ 0 e) .0)
+  line-shows v plays (Seek p) = answered v (seekAnswer v p) _ refl (λ e. refused-call b store v (seek p) (eqb-false _ 0 e) .0)
   line-shows v plays (Play n) = play-shows v plays (replicate n (pos 0))
   line-shows v plays Other = (refl, refl)
 
