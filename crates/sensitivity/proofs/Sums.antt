@@ -45,7 +45,7 @@ module _ (b old new : List ℤ) (card : Card) (D : ℕ) (s : Setting b old card)
   abbrev F : ℕ
   F = sizesOf b .fade
 
-  -- ---- points: a level at most doubles a difference and a value quadruples it, both over 2^8, and a fade is a mean
+  -- ---- points: a sample counts 2^8 there, each level at most doubles a difference, a value quadruples it, and a fade is a mean
 
   abbrev PointsApart : ℤ → ℤ → Type 0
   PointsApart x y = natAbs (pos 1 *ℤ x -ℤ pos 1 *ℤ y) ≤ 2 ^ (10 + T) * D * pointScale b T
