@@ -24,11 +24,15 @@ at-part xs a n k h = rw (getD-take, getD-drop)
 pub at-outside : (xs : List ℤ) (k : ℕ) → length xs ≤ k → at xs k ≡ pos 0
 at-outside xs k h = List·getD-eq-default xs (pos 0) h
 
--- a bound of every word is a bound of the words read at any index
-pub wordAt-bound : (xs : List ℤ) (c : ℕ) → ((k : ℕ) → natAbs (at xs k) ≤ c) → (i : ℤ) → natAbs (wordAt xs i) ≤ c
+-- what holds of the words of two lists at each place holds of those read at any index: outside they are 0
+pub wordAt-both : (R : ℤ → ℤ → Type 0) (xs ys : List ℤ) → R (pos 0) (pos 0) → ((k : ℕ) → R (at xs k) (at ys k)) → (i : ℤ) → R (wordAt xs i) (wordAt ys i)
 unfolding wordAt
-wordAt-bound xs c h (pos k) = h k
-wordAt-bound xs c h (negsuc k) = omega arith
+wordAt-both R xs ys none each (pos k) = each k
+wordAt-both R xs ys none each (negsuc k) = none
+
+-- so a bound of every word
+pub wordAt-bound : (xs : List ℤ) (c : ℕ) → ((k : ℕ) → natAbs (at xs k) ≤ c) → (i : ℤ) → natAbs (wordAt xs i) ≤ c
+wordAt-bound xs c = wordAt-both (λ x y. natAbs x ≤ c) xs xs (omega arith)
 
 -- ---- a list made by a rule
 

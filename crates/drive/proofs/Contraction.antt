@@ -4,9 +4,10 @@ use mathlib.Core.Bool.{Bool, true, false, cond}
 use Prim.Native.Nat.{ℕ, _≤_, _<_}
 use native.Mathlib.Omega.{arith}
 use native.Mathlib.Nat.{mul-le-mul-right}
-use lib.IntN.{ℤ, pos, natAbs, _-ℤ_, _*ℤ_, *ℤ-comm}
-use lib.Signed.{ltZ, _≤ℤ_}
+use lib.IntN.{ℤ, pos, negsuc, natAbs, _-ℤ_, _*ℤ_, *ℤ-comm}
+use lib.Signed.{ltZ, leZ-yes, _≤ℤ_}
 use Rattle.arith.proofs.Linear.{linear}
+use Rattle.arith.proofs.Integers.{*ℤ-≤ℤ-pos}
 use Rattle.arith.specs.Limit.{limit}
 
 -- scaling both sides does not change a test
@@ -28,7 +29,7 @@ limit-scaled s lo hi x h l = rw (*ℤ-comm lo (pos s), *ℤ-comm hi (pos s), sca
     go false false = refl
 
 -- by where each of the two numbers lies: below, above or between the bounds
-pub limit-apart : (lo hi x y : ℤ) → lo ≤ℤ hi → natAbs (limit lo hi x -ℤ limit lo hi y) ≤ natAbs (x -ℤ y)
+limit-apart : (lo hi x y : ℤ) → lo ≤ℤ hi → natAbs (limit lo hi x -ℤ limit lo hi y) ≤ natAbs (x -ℤ y)
 unfolding limit
 limit-apart lo hi x y h = go (ltZ x lo) (ltZ hi x) (ltZ y lo) (ltZ hi y) refl refl refl refl
   where
@@ -42,3 +43,8 @@ limit-apart lo hi x y h = go (ltZ x lo) (ltZ hi x) (ltZ y lo) (ltZ hi y) refl re
     go false false true t′ a b c d = simp linear (omega (arith, simp linear at a, simp linear at c))
     go false false false true a b c d = simp linear (omega (arith, simp linear at b, simp linear at d))
     go false false false false a b c d = simp linear (omega arith)
+
+-- the same of two output sums over a scale, limited to 16 bits
+pub limit16-apart : (s : ℕ) (x y : ℤ)
+    → natAbs (limit (negsuc 32767 *ℤ pos s) (pos 32767 *ℤ pos s) x -ℤ limit (negsuc 32767 *ℤ pos s) (pos 32767 *ℤ pos s) y) ≤ natAbs (x -ℤ y)
+limit16-apart s x y = limit-apart (negsuc 32767 *ℤ pos s) (pos 32767 *ℤ pos s) x y (*ℤ-≤ℤ-pos {a = negsuc 32767} {b = pos 32767} s (leZ-yes tt))

@@ -17,7 +17,7 @@ use Rattle.player.specs.Outputs.{voiceAfter, outputs}
 use Rattle.player.proofs.Blocks.{length-outputs}
 use Rattle.player.proofs.Filled.{voiceAfter-+}
 use Rattle.drive.specs.Lists.{Call, order, seek, play, callNumber, callVoice, callSamples, endVoice, handedOut, Mark, isPlay, marks}
-use Rattle.drive.proofs.Players.{Player, player}
+use Rattle.drive.proofs.Players.{player}
 
 -- ---- a list made by a rule, in two parts
 

@@ -14,7 +14,7 @@ use Rattle.arith.specs.Lists.{at, wordAt}
 use Rattle.arith.proofs.Linear.{linear, abs-pos-*}
 use Rattle.arith.proofs.Integers.{abs-triangle, abs-*-≤}
 use Rattle.arith.proofs.Floor.{near-close}
-use Rattle.arith.proofs.Lists.{at-outside, length-tabulate, getD-tabulate}
+use Rattle.arith.proofs.Lists.{at-outside, wordAt-both, length-tabulate, getD-tabulate}
 use Rattle.arith.proofs.Sum.{sumAround-ext, sumAround-abs-*, sumAround-linear}
 use Rattle.book.specs.Check.{tapSum}
 use Rattle.octave.specs.Octave.{halfLength, levelSum, levelWord}
@@ -75,13 +75,6 @@ module _ (h x : List ℤ) where
   built-outside : (j k : ℕ) → ¬ (k < levelLength (length x) j) → at (levelOf h x j) k ≡ pos 0
   built-outside j k l = at-outside (levelOf h x j) k (omega (arith, length-level h x j))
 
--- ---- what holds of the words of two levels at each place holds at any index: words outside are 0
-
-words-both : (R : ℤ → ℤ → Type 0) (xs ys : List ℤ) → R (pos 0) (pos 0) → ((k : ℕ) → R (at xs k) (at ys k)) → (i : ℤ) → R (wordAt xs i) (wordAt ys i)
-unfolding wordAt
-words-both R xs ys none each (pos k) = each k
-words-both R xs ys none each (negsuc k) = none
-
 -- ---- the exact levels of two recordings: each lies at most 2^15 times as far apart as the one below it
 
 module _ (h x y : List ℤ) (small : tapSum h ≤ 32768) (same : length x ≡ length y) (c d : ℤ) (X : ℕ) (close : (k : ℕ) → natAbs (c *ℤ at x k -ℤ d *ℤ at y k) ≤ X) where
@@ -93,7 +86,7 @@ module _ (h x y : List ℤ) (small : tapSum h ≤ 32768) (same : length x ≡ le
 
   exact-apart : (j k : ℕ) → Apart j (at (exactLevel h x j) k) (at (exactLevel h y j) k)
   exact-apart zero k = rw (exact-first h x, exact-first h y) (omega (arith, close k))
-  exact-apart (suc j) k = go (decLe (suc k) (levelLength (length x) (suc j))) (words-both (Apart j) (exactLevel h x j) (exactLevel h y j) (none-apart j) (exact-apart j))
+  exact-apart (suc j) k = go (decLe (suc k) (levelLength (length x) (suc j))) (wordAt-both (Apart j) (exactLevel h x j) (exactLevel h y j) (none-apart j) (exact-apart j))
     where
       go : Dec (k < levelLength (length x) (suc j)) → ((i : ℤ) → Apart j (wordAt (exactLevel h x j) i) (wordAt (exactLevel h y j) i))
           → Apart (suc j) (at (exactLevel h x (suc j)) k) (at (exactLevel h y (suc j)) k)
@@ -105,7 +98,7 @@ module _ (h x y : List ℤ) (small : tapSum h ≤ 32768) (same : length x ≡ le
 
   -- the same at any index
   pub exact-word-apart : (j : ℕ) (i : ℤ) → Apart j (wordAt (exactLevel h x j) i) (wordAt (exactLevel h y j) i)
-  exact-word-apart j = words-both (Apart j) (exactLevel h x j) (exactLevel h y j) (none-apart j) (exact-apart j)
+  exact-word-apart j = wordAt-both (Apart j) (exactLevel h x j) (exactLevel h y j) (none-apart j) (exact-apart j)
 
 -- ---- how far apart built and exact words lie
 
@@ -135,7 +128,7 @@ module _ (h x : List ℤ) (small : tapSum h ≤ 32768) where
   -- a level adds half a unit of rounding to at most twice the distance of the level below: 1 + 2 · (2^j − 1) is 2^(j+1) − 1
   level-close : (j k : ℕ) → WordClose j (at (levelOf h x j) k) (at (exactLevel h x j) k)
   level-close zero k = rw (exact-first h x, built-first h x k) (simp linear (omega arith))
-  level-close (suc j) k = go (decLe (suc k) (levelLength (length x) (suc j))) (words-both (WordClose j) W X (none-close j) (level-close j))
+  level-close (suc j) k = go (decLe (suc k) (levelLength (length x) (suc j))) (wordAt-both (WordClose j) W X (none-close j) (level-close j))
     where
       c : ℕ
       c = 2 ^ (14 * j)
@@ -158,4 +151,4 @@ module _ (h x : List ℤ) (small : tapSum h ≤ 32768) where
 
   -- the same at any index
   pub word-close : (j : ℕ) (i : ℤ) → WordClose j (wordAt (levelOf h x j) i) (wordAt (exactLevel h x j) i)
-  word-close j = words-both (WordClose j) (levelOf h x j) (exactLevel h x j) (none-close j) (level-close j)
+  word-close j = wordAt-both (WordClose j) (levelOf h x j) (exactLevel h x j) (none-close j) (level-close j)

@@ -2,8 +2,8 @@ pub mod Contraction
 pub mod Scaled
 pub mod ExactLevels
 pub mod Distance
-pub mod Settings
 pub mod Alike
+pub mod Settings
 pub mod Players
 pub mod Steps
 pub mod Related

@@ -11,7 +11,6 @@ use Rattle.arith.specs.Floor.{near}
 use Rattle.arith.specs.Limit.{limit}
 use Rattle.arith.specs.Lists.{wordAt}
 use Rattle.arith.proofs.Linear.{linear}
-use Rattle.arith.proofs.Integers.{*ℤ-≤ℤ-pos}
 use Rattle.arith.proofs.Limit.{limit-inside}
 use Rattle.arith.proofs.Lists.{wordAt-bound}
 use Rattle.book.specs.Number.{_otherwise_}
@@ -39,7 +38,7 @@ use Rattle.player.specs.Calls.{freshVoice, orderAnswer, seekAnswer, playAnswer}
 use Rattle.drive.specs.Exact.{exactLevel, exactPoint, pointScale, exactScale, exactOutput, ExactVoice, exactFresh, exactNext}
 use Rattle.drive.specs.Lists.{Call, order, seek, play, callNumber, exactBound, exactCallNumber}
 use Rattle.drive.specs.Demand.{Setting, storeOf, CloseTo}
-use Rattle.drive.proofs.Contraction.{limit-scaled, limit-apart}
+use Rattle.drive.proofs.Contraction.{limit-scaled, limit16-apart}
 use Rattle.drive.proofs.ExactLevels.{WordClose, word-close}
 use Rattle.drive.proofs.Distance.{point-close, output-sum-close}
 use Rattle.drive.proofs.Settings.{right, fade-low, top-high, taps-small, samples-small, scale-pos, exact-small}
@@ -105,12 +104,12 @@ module _ (b samples rest : List ℤ) (card : Card) (setting : Setting b samples 
 
   number-same : (v : Voice) (e : ExactVoice) (c : Call) → Related v e → callNumber b store v c ≡ exactCallNumber b samples T e c
   unfolding callNumber exactCallNumber orderAnswer seekAnswer playAnswer playNumber
-  number-same v e (order o) r = order-number-same F T _ _ _ r o
-  number-same v e (seek P) r = seek-number-same F T _ _ _ r P
+  number-same v e (order o) r = order-number-same r o
+  number-same v e (seek P) r = seek-number-same r P
   number-same v e (play words) r =
       let state : ℕ → ℕ = λ top. playStateNumber F top (v .control) pointBound (v .history) (length words) in
       ap₂ (λ m k. m otherwise k otherwise state (topLevel store)) (setting .book-accepted) store-accepted
-      ∙ zero-otherwise (0 otherwise state (topLevel store)) ∙ zero-otherwise (state (topLevel store)) ∙ ap state store-top ∙ play-number-same F T _ _ _ r (length words)
+      ∙ zero-otherwise (0 otherwise state (topLevel store)) ∙ zero-otherwise (state (topLevel store)) ∙ ap state store-top ∙ play-number-same r (length words)
 
   -- the output of related states is close to the exact sum: the limit brings the two no further apart
   output-close : (v : Voice) (e : ExactVoice) → Related v e → CloseTo T (exactScale b T) (output b (v .history)) (exactOutput b T (e .points))
@@ -118,10 +117,8 @@ module _ (b samples rest : List ℤ) (card : Card) (setting : Setting b samples 
   output-close v e r =
       let s = exactScale b T in
       let o = near (outputSum b (v .history)) (2 ^ 22) in
-      let lo = negsuc 32767 in
-      let hi = pos 32767 in
-      let scaled = limit-scaled s lo hi o (scale-pos setting) (leZ-yes tt) in
-      let apart = limit-apart (lo *ℤ pos s) (hi *ℤ pos s) (pos s *ℤ o) (outputSum b (e .points)) (*ℤ-≤ℤ-pos {a = lo} {b = hi} s (leZ-yes tt)) in
+      let scaled = limit-scaled s (negsuc 32767) (pos 32767) o (scale-pos setting) (leZ-yes tt) in
+      let apart = limit16-apart s (pos s *ℤ o) (outputSum b (e .points)) in
       let near-sum = output-sum-close b T (outputSum-apart b (right setting)) (v .history) (e .points) (r .related) in
       rw scaled (le-trans (mul-le-mul-left 256 apart) near-sum)
 
@@ -129,8 +126,8 @@ module _ (b samples rest : List ℤ) (card : Card) (setting : Setting b samples 
   unfolding player exact callNumber orderAnswer seekAnswer nextVoice exactNext
   steps = record {
     number-same = number-same;
-    order-kept = λ v e o r h. ordered-alike F T _ _ _ r o h;
-    seek-kept = λ v e P r h. sought-alike F T _ _ _ r P h;
-    output-kept = λ v e r. output-alike F T _ _ _ r made;
+    order-kept = λ v e o r h. ordered-alike r o h;
+    seek-kept = λ v e P r h. sought-alike r P h;
+    output-kept = λ v e r. output-alike r made;
     newest-related = output-close;
   }

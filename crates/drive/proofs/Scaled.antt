@@ -25,9 +25,12 @@ apart-times n s d x y = rw (*ℤ-assoc (pos n) (pos d) y) (apart-multiple n s x 
 pub apart-factor : (n c d x y : ℤ) → c *ℤ (n *ℤ x) -ℤ d *ℤ (n *ℤ y) ≡ n *ℤ (c *ℤ x -ℤ d *ℤ y)
 apart-factor n c d x y = simp products (simp terms (omega arith))
 
--- by way of a third number
+-- by way of a third number, and seen from the other
 pub apart-by : (x y z : ℤ) → natAbs (x -ℤ z) ≤ natAbs (x -ℤ y) + natAbs (y -ℤ z)
 apart-by x y z = simp linear (omega arith)
+
+pub apart-swap : (x y : ℤ) → natAbs (x -ℤ y) ≡ natAbs (y -ℤ x)
+apart-swap x y = simp linear (omega arith)
 
 -- rounding moves a / b by at most a half
 pub near-scaled : (s b : ℕ) (a : ℤ) → 0 < b → 2 * natAbs (pos (s * b) *ℤ near a b -ℤ pos s *ℤ a) ≤ s * b

@@ -8,7 +8,7 @@ use native.Mathlib.Decide.{decLt}
 use native.Mathlib.Omega.{arith}
 use lib.IntN.{ℤ, pos, natAbs, _-ℤ_, _*ℤ_}
 use lib.ListN.{length}
-use lib.Pow.{pow-add, pow-pos, pow-mono}
+use lib.Pow.{pow-pos, pow-mono}
 use Rattle.arith.specs.Lists.{at}
 use Rattle.arith.specs.Tests.{every}
 use Rattle.arith.proofs.Linear.{linear}
@@ -18,12 +18,12 @@ use Rattle.book.specs.Book.{sizesOf, levelTaps}
 use Rattle.book.specs.Check.{tapSum}
 use Rattle.book.proofs.Accepted.{Accepted, accepted, sizes-bounded, levelTaps-sum}
 use Rattle.control.specs.declared.Card.{Card}
-use Rattle.control.specs.declared.Plan.{Plan}
 use Rattle.refusals.proofs.Accepted.{open-top}
 use Rattle.values.proofs.Values.{valueSum-apart}
 use Rattle.drive.specs.Exact.{exactPoint, pointScale, exactScale}
 use Rattle.drive.specs.Lists.{exactBound}
 use Rattle.drive.specs.Demand.{Setting}
+use Rattle.drive.proofs.Alike.{EachPlan}
 use Rattle.drive.proofs.Distance.{exactPoint-apart}
 use Rattle.drive.proofs.ExactLevels.{exact-word-apart}
 
@@ -56,7 +56,7 @@ module _ {b samples : List ℤ} {card : Card} (setting : Setting b samples card)
   scale-pos = mul-pos (pow-pos (14 * card .top + 60)) fade-low
 
   -- no more than ±2^29: 2^(10 + T) times a sample
-  pub exact-small : (p : Plan) → p .old ≤ card .top → p .new ≤ card .top → p .step ≤ sizesOf b .fade → natAbs (exactPoint b samples (card .top) p) ≤ exactBound b samples (card .top)
+  pub exact-small : EachPlan (sizesOf b .fade) (card .top) (λ p. natAbs (exactPoint b samples (card .top) p) ≤ exactBound b samples (card .top))
   unfolding exactBound
   exact-small p from to inside =
       let T = card .top in

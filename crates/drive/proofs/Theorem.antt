@@ -1,11 +1,8 @@
 -- Demand 3, whole. Assumes nothing.
-use mathlib.Core.List.{List}
-use lib.IntN.{ℤ}
-use Rattle.control.specs.declared.Card.{Card}
 use Rattle.player.specs.Calls.{openAnswer}
 use Rattle.player.proofs.Opened.{open-accepted}
 use Rattle.drive.specs.Exact.{exactFresh}
-use Rattle.drive.specs.Demand.{Setting, storeOf, Demand3}
+use Rattle.drive.specs.Demand.{storeOf, Demand3}
 use Rattle.drive.proofs.Related.{Related, fresh, steps}
 use Rattle.drive.proofs.Cuts.{same-cuts}
 use Rattle.drive.proofs.Players.{player, exact}

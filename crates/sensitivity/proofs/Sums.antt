@@ -4,13 +4,11 @@ use mathlib.Core.Path.{_≡_, refl, ap}
 use Prim.Native.Nat.{ℕ, _+_, _*_, _^_, _≤_}
 use native.Mathlib.Nat.{le-trans}
 use native.Mathlib.Omega.{arith}
-use lib.IntN.{ℤ, pos, negsuc, natAbs, _-ℤ_, _*ℤ_}
+use lib.IntN.{ℤ, pos, natAbs, _-ℤ_, _*ℤ_}
 use lib.ListN.{length}
 use lib.Pow.{pow-add}
-use lib.Signed.{leZ-yes}
 use Rattle.arith.specs.Lists.{at}
 use Rattle.arith.proofs.Linear.{linear}
-use Rattle.arith.proofs.Integers.{*ℤ-≤ℤ-pos}
 use Rattle.book.specs.Book.{sizesOf, levelTaps}
 use Rattle.control.specs.declared.Card.{Card}
 use Rattle.control.specs.Moves.{freshControl}
@@ -21,7 +19,7 @@ use Rattle.decimation.proofs.Sums.{outputSum-apart}
 use Rattle.drive.specs.Exact.{exactPoint, pointScale, exactScale, exactOutput, ExactVoice, exactFresh, exactNext}
 use Rattle.drive.specs.Lists.{Call, order, seek, play, exactBound, exactCallNumber, exactSums}
 use Rattle.drive.specs.Demand.{Setting}
-use Rattle.drive.proofs.Contraction.{limit-apart}
+use Rattle.drive.proofs.Contraction.{limit16-apart}
 use Rattle.drive.proofs.ExactLevels.{exact-word-apart}
 use Rattle.drive.proofs.Distance.{exactPoint-apart, output-scale}
 use Rattle.drive.proofs.Settings.{right, fade-low, top-high, taps-small, exact-small}
@@ -69,10 +67,7 @@ module _ (b old new : List ℤ) (card : Card) (D : ℕ) (s : Setting b old card)
   outputs-apart : (h h′ : List ℤ) → ((k : ℕ) → PointsApart (at h k) (at h′ k)) → SumsApart T D (exactScale b T) (exactOutput b T h) (exactOutput b T h′)
   unfolding exactOutput
   outputs-apart h h′ points-apart =
-      let scale = exactScale b T in
-      let lo = negsuc 32767 in
-      let hi = pos 32767 in
-      let limited = limit-apart (lo *ℤ pos scale) (hi *ℤ pos scale) (outputSum b h) (outputSum b h′) (*ℤ-≤ℤ-pos {a = lo} {b = hi} scale (leZ-yes tt)) in
+      let limited = limit16-apart (exactScale b T) (outputSum b h) (outputSum b h′) in
       let summed = rw (once (outputSum b h) (outputSum b h′)) at (outputSum-apart b (right s) (pos 1) (pos 1) h h′ (2 ^ (10 + T) * D * pointScale b T) points-apart) in
       le-trans limited (rw (output-scale b T) (omega (arith, summed, ap (λ (n : ℕ). n * (D * pointScale b T)) (pow-add 2 10 T))))
 
@@ -87,17 +82,17 @@ module _ (b old new : List ℤ) (card : Card) (D : ℕ) (s : Setting b old card)
 
   number-same : (e e′ : ExactVoice) (c : Call) → Beside e e′ → exactCallNumber b old T e c ≡ exactCallNumber b new T e′ c
   unfolding exactCallNumber
-  number-same e e′ (order o) r = order-number-same F T _ _ _ r o
-  number-same e e′ (seek P) r = seek-number-same F T _ _ _ r P
-  number-same e e′ (play words) r = play-number-same F T _ _ _ r (length words)
+  number-same e e′ (order o) r = order-number-same r o
+  number-same e e′ (seek P) r = seek-number-same r P
+  number-same e e′ (play words) r = play-number-same r (length words)
 
   steps : Steps (SumsApart T D (exactScale b T)) (exact b old T) (exact b new T) Beside
   unfolding exact exactCallNumber exactNext
   steps = record {
     number-same = number-same;
-    order-kept = λ e e′ o r h. ordered-alike F T _ _ _ r o h;
-    seek-kept = λ e e′ P r h. sought-alike F T _ _ _ r P h;
-    output-kept = λ e e′ r. output-alike F T _ _ _ r made;
+    order-kept = λ e e′ o r h. ordered-alike r o h;
+    seek-kept = λ e e′ P r h. sought-alike r P h;
+    output-kept = λ e e′ r. output-alike r made;
     newest-related = λ e e′ r. outputs-apart (e .points) (e′ .points) (r .related);
   }
 

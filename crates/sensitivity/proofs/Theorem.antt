@@ -2,8 +2,7 @@
 use mathlib.Core.List.{List}
 use mathlib.Core.Path.{_≡_, sym, ap, _∙_}
 use Prim.Native.Nat.{ℕ, _+_, _*_, _^_, _≤_, _<_}
-use native.Mathlib.Nat.{mul-le-mul-left}
-use native.Mathlib.Decide.{decLe}
+use native.Mathlib.Nat.{mul-div-cancel, le-div-iff-mul-le}
 use native.Mathlib.Omega.{arith}
 use lib.IntN.{ℤ, pos, natAbs, _-ℤ_, _*ℤ_}
 use lib.ListN.{length}
@@ -14,7 +13,7 @@ use Rattle.player.specs.Calls.{openAnswer}
 use Rattle.drive.specs.Exact.{exactScale, exactFresh}
 use Rattle.drive.specs.Lists.{handedOut, exactSums}
 use Rattle.drive.specs.Demand.{storeOf, CloseTo, Close}
-use Rattle.drive.proofs.Scaled.{apart-by}
+use Rattle.drive.proofs.Scaled.{apart-by, apart-swap}
 use Rattle.drive.proofs.Settings.{scale-pos}
 use Rattle.drive.proofs.Steps.{Paired}
 use Rattle.drive.proofs.Theorem.{demand3}
@@ -22,15 +21,8 @@ use Rattle.sensitivity.specs.Sensitivity.{movement, Moved, Sensitivity}
 use Rattle.sensitivity.proofs.Sums.{SumsApart, sums-apart}
 
 -- a common factor of two numbers cancels
-cancel : (s p q : ℕ) → 0 < s → s * p ≤ s * q → p ≤ q
-cancel s p q some h = go (decLe p q)
-  where
-    go : Dec (p ≤ q) → p ≤ q
-    go (yes l) = l
-    go (no l) = let more : q + 1 ≤ p = omega arith in absurd (omega (arith, mul-le-mul-left s more))
-
-apart-swap : (x y : ℤ) → natAbs (x -ℤ y) ≡ natAbs (y -ℤ x)
-apart-swap x y = simp linear (omega arith)
+cancel : (s p q : ℕ) → 0 < s → p * s ≤ q * s → p ≤ q
+cancel s p q some h = rw (mul-div-cancel q some) at (le-div-iff-mul-le some .1 h)
 
 -- two samples, each close to its sum, where the two sums lie within 8 × 2^T × D
 samples-moved : (T D scale : ℕ) (x y sum sum′ : ℤ) → 0 < scale → CloseTo T scale x sum → CloseTo T scale y sum′ → SumsApart T D scale sum sum′

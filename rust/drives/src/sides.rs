@@ -113,7 +113,7 @@ fn store_pattern(count: usize) -> impl Iterator<Item = i32> {
 const NO_COUNT: u64 = u64::MAX / 7;
 
 /// The archive's number and, of a play, its multiply count; else 0.
-fn archive_call(voice: &mut [i32], lent: &Lent, call: Call, out: &mut [i16]) -> (u32, u64) {
+pub fn archive_call(voice: &mut [i32], lent: &Lent, call: Call, out: &mut [i16]) -> (u32, u64) {
     let number = match call {
         Call::Jump(rate) => archive::jump(voice, rate),
         Call::Glide(rate, count) => archive::glide(voice, rate, count),

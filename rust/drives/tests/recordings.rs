@@ -4,11 +4,13 @@
 
 use drives::call::{lent, Call};
 use drives::inputs::{accepted_rate, list_of_calls, random_setting};
+use drives::record::Words;
+use drives::sides::archive_call;
 use drives::EDITION;
 use renderer::levels::{build, store_length, MOST_TOP};
 use renderer::random::Rng;
-use renderer::voice::{open, Card};
-use tone::Voice;
+use renderer::voice::{open, Card, Lent};
+use tone::{archive, VOICE_WORDS};
 
 /// As much as a book may have: values up to 4 times a word, outputs and levels twice
 /// what they are made of. N 4, M 1, A and B 0, F 1.
@@ -25,16 +27,12 @@ fn store_of(book: &[i32], samples: &[i16], top: u64, after: &[i32]) -> Vec<i32> 
     store
 }
 
-/// What a call hands out, by the archive; none where it is refused.
-fn handed_out(voice: &mut Voice, book: &[i32], store: &[i32], call: Call) -> Option<Vec<i16>> {
+/// A call's number and what it hands out, by the archive; nothing where it is refused.
+fn handed_out(voice: &mut Words, lent: &Lent, call: Call) -> (u32, Vec<i16>) {
     let mut out = vec![0; call.outputs()];
-    let answer = match call {
-        Call::Jump(rate) => voice.jump(rate),
-        Call::Glide(rate, count) => voice.glide(rate, count),
-        Call::Seek(position) => voice.seek(position),
-        Call::Play(_) => voice.play(book, store, &mut out).map(|_| ()),
-    };
-    answer.ok().map(|()| out)
+    let (number, _) = archive_call(voice, lent, call, &mut out);
+    out.truncate(if number == 0 { call.outputs() } else { 0 });
+    (number, out)
 }
 
 /// What a list hands out from rate and T on, by the renderer.
@@ -101,18 +99,16 @@ fn drive(rng: &mut Rng, seen: &mut Seen) {
     let recorded = difference(&setting.samples, &new);
     let allowed = 128 * 8 * (1 << top) * recorded + 126 + 4 * (1 << top);
     let rate = accepted_rate(rng, top);
-    let mut voices = [0, 1].map(|_| Voice::open(rate, top as u32).unwrap());
+    let [old, new] = [&stores[0], &stores[1]].map(|store| lent(&book, store));
+    let mut voice = [0; VOICE_WORDS];
+    assert_eq!(archive::open(rate, top as u32, &mut voice), 0);
+    let mut voices = [voice; 2];
     for call in list_of_calls(rng, &setting, rate, 30, 60) {
-        let [old, new] = &mut voices;
-        let old = handed_out(old, &book, &stores[0], call);
-        let new = handed_out(new, &book, &stores[1], call);
-        let (Some(old), Some(new)) = (&old, &new) else {
-            assert_eq!(old, new, "{call} is refused with one of the recordings");
-            seen.refused += 1;
-            continue;
-        };
-        assert_eq!(old.len(), new.len());
-        let steps = difference(old, new);
+        let (number, old) = handed_out(&mut voices[0], &old, call);
+        let (other, new) = handed_out(&mut voices[1], &new, call);
+        assert_eq!((number, old.len()), (other, new.len()), "{call}");
+        seen.refused += usize::from(number != 0);
+        let steps = difference(&old, &new);
         assert!(128 * steps <= allowed, "T {top}, D {recorded}: {steps}");
         seen.samples += old.len();
         seen.moved += usize::from(steps > 0);
