@@ -10,12 +10,7 @@ use std::process::ExitCode;
 
 fn main() -> ExitCode {
     let arguments: Vec<_> = env::args_os().skip(1).collect();
-    let (path, take) = match &arguments[..] {
-        [path] => (path, Some(1)),
-        [path, take] => (path, take.to_str().and_then(|take| take.parse().ok())),
-        _ => (&OsString::new(), None),
-    };
-    let Some(take) = take.filter(|take| *take > 0) else {
+    let Some((path, take)) = read(&arguments) else {
         eprintln!("usage: hum OUT.wav [TAKE], TAKE from 1 on");
         return ExitCode::from(2);
     };
@@ -25,5 +20,17 @@ fn main() -> ExitCode {
             eprintln!("hum: {}: {error}", path.display());
             ExitCode::from(2)
         }
+    }
+}
+
+/// The file and the take.
+fn read(arguments: &[OsString]) -> Option<(&OsString, u32)> {
+    match arguments {
+        [path] => Some((path, 1)),
+        [path, take] => {
+            let take = take.to_str()?.parse().ok()?;
+            (take > 0).then_some((path, take))
+        }
+        _ => None,
     }
 }
