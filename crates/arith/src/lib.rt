@@ -41,7 +41,7 @@ fn excess(a: i64, b: i64) -> i64
 
 // The floor of a / b, from the division that truncates, of what is left without its excess: for a constant power of two the compiler makes one shift of it.
 fn floor_shift(a: i64, b: i64) -> i64
-    requires { ⌜ natAbs a ≤ 2 ^ 62 + 2 ^ 32 ⌝ ∗ ⌜ pos 0 <ℤ b ⌝ ∗ ⌜ b ≤ℤ pos (2 ^ 33) ⌝ }
+    requires { ⌜ natAbs a + 2 ^ 33 ≤ 2 ^ 63 ⌝ ∗ ⌜ pos 0 <ℤ b ⌝ ∗ ⌜ b ≤ℤ pos (2 ^ 33) ⌝ }
     ensures { λ r. ⌜ r ≡ floorDiv a (natAbs b) ⌝ }
 {
     (a - excess(a, b)) / b
@@ -51,7 +51,7 @@ fn floor_shift(a: i64, b: i64) -> i64
 // from an odd quotient. That goes to the lower part, which is kept whole: it tells a half from what lies just above one. For constant powers of
 // two the compiler makes a few steps of it, and no branch, so that the time does not go with the number.
 pub fn near_parts(high: i64, low: i64, unit: i64, half: i64) -> i64
-    requires { ⌜ (natAbs high + natAbs low / natAbs unit + 2 ≤ 2 ^ 62) × (natAbs low ≤ 2 ^ 61) ⌝ }
+    requires { ⌜ (natAbs high + natAbs low / natAbs unit + 2 ^ 34 ≤ 2 ^ 63) × (natAbs low + 2 ^ 49 ≤ 2 ^ 63) ⌝ }
     requires { ⌜ pos 0 <ℤ unit ⌝ ∗ ⌜ unit ≤ℤ pos 65536 ⌝ ∗ ⌜ pos 0 <ℤ half ⌝ ∗ ⌜ half ≤ℤ pos (2 ^ 32) ⌝ }
     ensures { λ r. ⌜ r ≡ near (pos (natAbs unit) *ℤ high +ℤ low) (natAbs unit * (2 * natAbs half)) ⌝ }
 {
@@ -97,4 +97,17 @@ pub fn limit16(x: i32) -> i16
     let risen = positive_part(x + 32768);
     let left = positive_part(65535 - risen);
     (32767 - left) as i16
+}
+
+// The same of any x, with two tests: a form that the compiler knows, so that a loop narrows eight numbers at once.
+pub fn narrow(x: i32) -> i16
+    ensures { λ r. ⌜ r ≡ limit (negsuc 32767) (pos 32767) x ⌝ }
+{
+    if x < -32768 {
+        return -32768;
+    }
+    if 32767 < x {
+        return 32767;
+    }
+    x as i16
 }

@@ -4,3 +4,4 @@ pub mod Parts
 pub mod Runs
 pub mod Accepted
 pub mod Around
+pub mod ColumnBounds

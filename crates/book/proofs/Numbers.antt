@@ -37,6 +37,17 @@ pub zero-otherwise : (n : ℕ) → 0 otherwise n ≡ n
 unfolding _otherwise_
 zero-otherwise n = refl
 
+-- the first of three numbers, in either order of looking
+pub otherwise-assoc : (m n p : ℕ) → (m otherwise n) otherwise p ≡ m otherwise (n otherwise p)
+unfolding _otherwise_
+otherwise-assoc zero n p = refl
+otherwise-assoc (suc m) n p = refl
+
+pub otherwise-none : (m : ℕ) → m otherwise 0 ≡ m
+unfolding _otherwise_
+otherwise-none zero = refl
+otherwise-none (suc m) = refl
+
 -- a number n that a function gave, the m of a definition, hides those after it
 pub number-stays : {m n : ℕ} (next : ℕ) → n ≡ m → (n ≡ 0 → ⊥) → n ≡ m otherwise next
 number-stays {m} next e given = e ∙ sym (otherwise-first m next (λ z. given (e ∙ z)))

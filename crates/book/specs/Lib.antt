@@ -2,3 +2,4 @@ pub mod Number
 pub mod Book
 pub mod Check
 pub mod BookK
+pub mod Columns

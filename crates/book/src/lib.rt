@@ -1,13 +1,18 @@
 // The filter book: five sizes, impulses and differences by phase, level taps and decimation taps, as signed words.
 // `check` accepts a book or gives the number that turns it away.
 
+ghost use mathlib.Core.Bool.{true, not};
 ghost use mathlib.Core.Path.{_≡_};
-ghost use Prim.Native.Nat.{_≤_};
+ghost use Prim.Native.Nat.{_*_, _≤_};
+ghost use lib.IntN.{pos};
 ghost use lib.ListN.{length};
-ghost use Rattle.book.specs.Book.{sizesOf, levelTaps, decimationTaps};
-ghost use Rattle.book.specs.Check.{bookNumber};
+ghost use Rattle.arith.specs.Tests.{eqZ};
+ghost use Rattle.book.specs.Number.{refuse, _otherwise_};
+ghost use Rattle.book.specs.Book.{sizesOf, bookLength, impulse, levelTaps, decimationTaps};
+ghost use Rattle.book.specs.Check.{sizesInRange, coefficientsInRange, differencesRight, bookNumber};
 use arith::words::word_size;
 
+mod columns; // numbers 4 and 7 of the usual book
 mod differences; // number 6
 mod ranges; // numbers 2 and 4
 mod sums; // number 7
@@ -40,6 +45,22 @@ pub fn read_sizes(book: &[i32]) -> Sizes
     }
 }
 
+// Numbers 5 and 6, of a book without number 4.
+fn impulse_number(book: &[i32], array: usize, taps: usize) -> u32
+    requires { ⌜ (sizesInRange (now book) ≡ true) × (length (now book) ≡ bookLength (sizesOf (now book))) ⌝ }
+    requires { ⌜ (array ≡ sizesOf (now book) .phases * sizesOf (now book) .taps) × (taps ≡ sizesOf (now book) .taps) ⌝ }
+    requires { ⌜ coefficientsInRange (now book) ≡ true ⌝ }
+    ensures { λ r. ⌜ r ≡ (refuse 5 (not (eqZ (impulse (now (book .entry)) 0 0) (pos 0))) otherwise refuse 6 (not (differencesRight (now (book .entry))))) ⌝ }
+{
+    if book[5] != 0 {
+        return 5;
+    }
+    if differences::differences_right(book, array, taps) {
+        return 0;
+    }
+    6
+}
+
 // 0 where the book is accepted, else the first of the numbers 1 to 7 whose condition holds.
 pub fn check(book: &[i32]) -> u32
     ensures { λ r. ⌜ r ≡ bookNumber (now (book .entry)) ⌝ }
@@ -59,14 +80,15 @@ pub fn check(book: &[i32]) -> u32
     if book.len() != decimation_taps + (s.decimation + 1) {
         return 3;
     }
+    if columns::settled(book, phases, taps, level_taps, decimation_taps) {
+        return impulse_number(book, array, taps);
+    }
     if !ranges::coefficients_in_range(book, array) {
         return 4;
     }
-    if book[5] != 0 {
-        return 5;
-    }
-    if !differences::differences_right(book, array, taps) {
-        return 6;
+    let number = impulse_number(book, array, taps);
+    if number != 0 {
+        return number;
     }
     if !sums::sums_in_range(book, phases, taps, level_taps, decimation_taps) {
         return 7;

@@ -1,12 +1,12 @@
 // Number 7: sums of absolute values.
 
-ghost use mathlib.Core.Bool.{true};
+ghost use mathlib.Core.Bool.{true, _&&_};
 ghost use mathlib.Core.Path.{_≡_};
 ghost use Prim.Native.Nat.{_≤_};
 ghost use lib.Dec.{leb};
 ghost use lib.ListN.{length};
 ghost use Rattle.arith.specs.Tests.{every};
-ghost use Rattle.book.specs.Book.{sizesOf, levelTapsAt, decimationTapsAt, bookLength};
+ghost use Rattle.book.specs.Book.{sizesOf, levelTapsAt, decimationTapsAt, bookLength, levelTaps, decimationTaps};
 ghost use Rattle.book.specs.Check.{sizesInRange, coefficientsInRange, phaseSum, tapSum, sumsInRange};
 use arith::words::word_size;
 
@@ -36,19 +36,6 @@ fn phases_in_range(book: &[i32], phases: usize, taps: usize) -> bool
     right
 }
 
-// The same: the most common number of taps is a constant, so that the loop over them is unrolled.
-fn phase_sums_in_range(book: &[i32], phases: usize, taps: usize) -> bool
-    requires { ⌜ (sizesInRange (now book) ≡ true) × (length (now book) ≡ bookLength (sizesOf (now book))) ⌝ }
-    requires { ⌜ (phases ≡ sizesOf (now book) .phases) × (taps ≡ sizesOf (now book) .taps) ⌝ }
-    requires { ⌜ coefficientsInRange (now book) ≡ true ⌝ }
-    ensures { λ r. ⌜ r ≡ every phases (λ q. leb (phaseSum (now (book .entry)) q) 65536) ⌝ }
-{
-    if taps == 12 {
-        return phases_in_range(book, phases, 12);
-    }
-    phases_in_range(book, phases, taps)
-}
-
 // |h[0]| + 2 × (|h[1]| + .. + |h[A]|)
 fn tap_sum(taps: &[i32]) -> usize
     requires { ⌜ (1 ≤ length (now taps)) × (length (now taps) ≤ 41) ⌝ }
@@ -63,7 +50,19 @@ fn tap_sum(taps: &[i32]) -> usize
     word_size(taps, 0) + 2 * sum
 }
 
-// Number 7. The level taps lie from place `level` on, the decimation taps from place `decimation` on.
+// Whether both sums of taps are at most `most`. The level taps lie from place `level` on, the decimation taps from place `decimation` on.
+pub(crate) fn tap_sums_within(book: &[i32], level: usize, decimation: usize, most: usize) -> bool
+    requires { ⌜ (sizesInRange (now book) ≡ true) × (length (now book) ≡ bookLength (sizesOf (now book))) ⌝ }
+    requires { ⌜ (level ≡ levelTapsAt (sizesOf (now book))) × (decimation ≡ decimationTapsAt (sizesOf (now book))) ⌝ }
+    ensures { λ r. ⌜ r ≡ leb (tapSum (levelTaps (now (book .entry)))) most && leb (tapSum (decimationTaps (now (book .entry)))) most ⌝ }
+{
+    if most < tap_sum(&book[level..decimation]) {
+        return false;
+    }
+    tap_sum(&book[decimation..]) <= most
+}
+
+// Number 7.
 pub(crate) fn sums_in_range(
     book: &[i32],
     phases: usize,
@@ -77,11 +76,8 @@ pub(crate) fn sums_in_range(
     requires { ⌜ coefficientsInRange (now book) ≡ true ⌝ }
     ensures { λ r. ⌜ r ≡ sumsInRange (now (book .entry)) ⌝ }
 {
-    if !phase_sums_in_range(book, phases, taps) {
+    if !phases_in_range(book, phases, taps) {
         return false;
     }
-    if 32768 < tap_sum(&book[level..decimation]) {
-        return false;
-    }
-    tap_sum(&book[decimation..]) <= 32768
+    tap_sums_within(book, level, decimation, 32768)
 }

@@ -1,26 +1,22 @@
 -- `book::check` meets its contract: it makes the tests of numbers 1 to 7 in their order. Assumes nothing.
 use borrow.Author.Needs.{needs}
 use borrow.Author.Tests.{lt-ltb, le-ltb, eq-eqb, ne-eqb}
-use mathlib.Core.Bool.{true, false}
+use mathlib.Core.Bool.{true, false, not}
 use mathlib.Core.List.{List}
 use mathlib.Core.Path.{_≡_, refl, sym, ap, _∙_}
-use Prim.Native.Nat.{_+_, _*_, _≤_}
+use Prim.Native.Nat.{ℕ, _+_, _*_, _≤_}
 use native.Mathlib.Omega.{arith}
 use lib.Dec.{ltb, eqb}
 use lib.IntN.{ℤ, pos}
 use lib.ListN.{length}
-use mir.Syntax.{w32}
-use mir.Val.{SFits, ofZ, toZ}
-use mir.ValLaws.{toZ-ofZ}
-use Rattle.arith.specs.Lists.{at}
 use Rattle.arith.specs.Tests.{eqZ}
-use Rattle.arith.proofs.Tests.{test-fails, test-holds, eqZ-yes, eqZ-no}
+use Rattle.arith.proofs.Tests.{test-fails, test-holds}
 use Rattle.book.specs.declared.Sizes.{Sizes}
 use Rattle.book.specs.Number.{refuse, _otherwise_}
-use Rattle.book.specs.Book.{sizesOf, differencesAt, levelTapsAt, decimationTapsAt, bookLength, impulseWord, impulse}
+use Rattle.book.specs.Book.{sizesOf, differencesAt, levelTapsAt, decimationTapsAt, bookLength, impulse}
 use Rattle.book.specs.Check.{sizesInRange, coefficientsInRange, differencesRight, sumsInRange, bookNumber}
 use Rattle.book.proofs.Bounds.{Bounded, bounded, array-high, length-is}
-use Rattle.book.proofs.Parts.{impulse-stored}
+use Rattle.book.proofs.Numbers.{number-stays, otherwise-assoc, otherwise-none}
 use Rattle.book.proofs.check.Statement.{statement}
 use Rattle.book.proofs.check.Tie as tie
 
@@ -60,30 +56,52 @@ decimation-at s = refl
 lengthy : (c : tie.Else3) → length (b (c .before .before .before)) ≡ bookLength (sizesOf (b (c .before .before .before)))
 lengthy c = let r = c .before .before .before in c .if3 .left ∙ sym (length-is (s r)) ∙ ap bookLength (sizes-are r)
 
-ranged : (c : tie.Else4) → coefficientsInRange (b (c .before .before .before .before .before)) ≡ true
-ranged c = test-holds (c .before .coefficients-in-range .ensures) (c .if4 .left)
+-- numbers 5 and 6, as `impulse_number` gives them
+abbrev fifth : List ℤ → ℕ
+fifth b = refuse 5 (not (eqZ (impulse b 0 0) (pos 0)))
 
--- G_0[0] is word 5
-first-impulse : (c : tie.After-read-sizes) → impulse (b c) 0 0 ≡ at (b c) 5
-unfolding impulseWord
-first-impulse c =
-    let low = bounded (b c) (sized (c .before)) .phases-low in
-    let place : 5 + (0 * sizesOf (b c) .taps + 0) ≡ 5 = omega arith in
-    impulse-stored (b c) 0 0 low ∙ ap (at (b c)) place
+abbrev sixth : List ℤ → ℕ
+sixth b = refuse 6 (not (differencesRight b))
 
-word-fits : (c : tie.After-if52) → SFits w32 (at (b (c .before .before .before .before .before .before)) 5)
-word-fits c = record { sfits = c .if52 .given }
+-- what is left where none of the numbers 1 to 3 is given
+module _ (c : tie.Else3) where
+  abbrev r : tie.After-read-sizes
+  r = c .before .before .before
 
-zeroed : (c : tie.Else5) → eqZ (impulse (b (c .before .before .before .before .before .before .before)) 0 0) (pos 0) ≡ true
-zeroed c =
-    let r = c .before .before .before .before .before .before .before in
-    eqZ-yes (first-impulse r ∙ sym (toZ-ofZ w32 _ (word-fits (c .before))) ∙ ap (toZ w32) (c .if5 .left))
+  abbrev book : List ℤ
+  book = b r
 
-different : (c : tie.Else6) → differencesRight (b (c .before .before .before .before .before .before .before .before .before)) ≡ true
-different c = test-holds (c .before .differences-right .ensures) (c .if6 .left)
+  from-4 : bookNumber book ≡ refuse 4 (not (coefficientsInRange book)) otherwise (fifth book otherwise (sixth book otherwise refuse 7 (not (sumsInRange book))))
+  unfolding bookNumber refuse _otherwise_
+  from-4 = simp (long (r .before .before .before), sized (r .before), eq-eqb _ _ (lengthy c))
 
-summed : (c : tie.Else7) → sumsInRange (b (c .before .before .before .before .before .before .before .before .before .before .before)) ≡ true
-summed c = test-holds (c .before .sums-in-range .ensures) (c .if7 .left)
+  from-5 : coefficientsInRange book ≡ true → bookNumber book ≡ (fifth book otherwise sixth book) otherwise refuse 7 (not (sumsInRange book))
+  unfolding refuse _otherwise_
+  from-5 e = from-4 ∙ simp e (sym (otherwise-assoc (fifth book) (sixth book) (refuse 7 (not (sumsInRange book)))))
+
+  -- what the calls ask for
+  known : (sizesInRange book ≡ true) × (length book ≡ bookLength (sizesOf book))
+  known = (sized (r .before), lengthy c)
+
+  array-is : s r .phases * s r .taps ≡ sizesOf book .phases * sizesOf book .taps
+  array-is = ap (λ z. z .phases * z .taps) (sizes-are r)
+
+  taps-are : s r .taps ≡ sizesOf book .taps
+  taps-are = ap (λ z. z .taps) (sizes-are r)
+
+  phases-are : s r .phases ≡ sizesOf book .phases
+  phases-are = ap (λ z. z .phases) (sizes-are r)
+
+  places-are : (5 + s r .phases * s r .taps + s r .phases * s r .taps ≡ levelTapsAt (sizesOf book))
+      × (5 + s r .phases * s r .taps + s r .phases * s r .taps + (s r .reach + 1) ≡ decimationTapsAt (sizesOf book))
+  places-are = (sym (level-at (s r)) ∙ ap levelTapsAt (sizes-are r), sym (decimation-at (s r)) ∙ ap decimationTapsAt (sizes-are r))
+
+-- the bounds settle numbers 4 and 7, or the exact tests do
+by-bounds : (c : tie.Then4) → (coefficientsInRange (book (c .before .before)) ≡ true) × (sumsInRange (book (c .before .before)) ≡ true)
+by-bounds c = c .before .settled .ensures (c .if4 .taken)
+
+ranged : (c : tie.Else5) → coefficientsInRange (book (c .before .before .before .before)) ≡ true
+ranged c = test-holds (c .before .coefficients-in-range .ensures) (c .if5 .left)
 
 -- ---- the answers
 
@@ -129,92 +147,56 @@ returns-3 c =
     let wrong : eqb (length (b r)) (bookLength (sizesOf (b r))) ≡ false = ne-eqb _ _ (λ e. c .if3 .taken (e ∙ ap bookLength (sym (sizes-are r)) ∙ length-is (s r))) in
     simp (long (r .before .before .before), sized (r .before), wrong)
 
-coefficients-in-range-requires : tie.Need-coefficients-in-range-requires
-coefficients-in-range-requires c κs =
-    let r = c .before .before .before in
-    ((sized (r .before), lengthy c), ap (λ z. z .phases * z .taps) (sizes-are r))
+settled-requires : tie.Need-settled-requires
+settled-requires c κs = (known c, ((phases-are c, taps-are c), places-are c))
+
+impulse-number-requires : tie.Need-impulse-number-requires
+impulse-number-requires c κs = let e = c .before .before in (known e, ((array-is e, taps-are e), by-bounds c .0))
 
 returns-4 : tie.Need-returns-4
-unfolding bookNumber refuse _otherwise_
+unfolding refuse
 returns-4 c =
-    let e3 = c .before .before in
-    let r = e3 .before .before .before in
-    simp (long (r .before .before .before), sized (r .before), eq-eqb _ _ (lengthy e3), test-fails (c .before .coefficients-in-range .ensures) (c .if4 .taken))
+    let e = c .before .before .before in
+    let y = by-bounds (c .before) in
+    c .impulse-number .ensures ∙ sym (otherwise-none (fifth (book e) otherwise sixth (book e))) ∙ sym (from-5 e (y .0) ∙ ap (λ t. (fifth (book e) otherwise sixth (book e)) otherwise refuse 7 (not t)) (y .1))
 
-shared-slice-copy-out-if5 : tie.Need-shared-slice-copy-out-if5
-shared-slice-copy-out-if5 c = search needs
+coefficients-in-range-requires : tie.Need-coefficients-in-range-requires
+coefficients-in-range-requires c κs = let e = c .before .before in (known e, array-is e)
 
 returns-5 : tie.Need-returns-5
-unfolding bookNumber refuse _otherwise_
-returns-5 c =
-    let e4 = c .before .before in
-    let e3 = e4 .before .before in
-    let r = e3 .before .before .before in
-    let nonzero : eqZ (impulse (b r) 0 0) (pos 0) ≡ false = rw (first-impulse r) (eqZ-no _ _ (λ e. c .if5 .taken (ap (ofZ w32) e))) in
-    simp (long (r .before .before .before), sized (r .before), eq-eqb _ _ (lengthy e3), ranged e4, nonzero)
+unfolding refuse _otherwise_
+returns-5 c = sym (from-4 (c .before .before .before .before) ∙ simp (test-fails (c .before .coefficients-in-range .ensures) (c .if5 .taken)))
 
-differences-right-requires : tie.Need-differences-right-requires
-differences-right-requires c κs =
-    let e4 = c .before .before in
-    let e3 = e4 .before .before in
-    let r = e3 .before .before .before in
-    ((sized (r .before), lengthy e3), ((ap (λ z. z .phases * z .taps) (sizes-are r), ap (λ z. z .taps) (sizes-are r)), ranged e4))
+impulse-number-requires-2 : tie.Need-impulse-number-requires-2
+impulse-number-requires-2 c κs = let e = c .before .before .before .before in (known e, ((array-is e, taps-are e), ranged c))
 
 returns-6 : tie.Need-returns-6
-unfolding bookNumber refuse _otherwise_
 returns-6 c =
-    let e5 = c .before .before in
-    let e4 = e5 .before .before in
-    let e3 = e4 .before .before in
-    let r = e3 .before .before .before in
-    simp (
-      long (r .before .before .before),
-      sized (r .before),
-      eq-eqb _ _ (lengthy e3),
-      ranged e4,
-      zeroed e5,
-      test-fails (c .before .differences-right .ensures) (c .if6 .taken),
-    )
+    let n = c .before in
+    let e = n .before .before .before .before .before in
+    number-stays (refuse 7 (not (sumsInRange (book e)))) (n .impulse-number2 .ensures) (c .if6 .taken) ∙ sym (from-5 e (ranged (n .before)))
 
 sums-in-range-requires : tie.Need-sums-in-range-requires
 sums-in-range-requires c κs =
-    let e4 = c .before .before .before .before in
-    let e3 = e4 .before .before in
-    let r = e3 .before .before .before in (
-      (sized (r .before), lengthy e3),
-      (
-        (ap (λ z. z .phases) (sizes-are r), ap (λ z. z .taps) (sizes-are r)),
-        ((sym (level-at (s r)) ∙ ap levelTapsAt (sizes-are r), sym (decimation-at (s r)) ∙ ap decimationTapsAt (sizes-are r)), ranged e4),
-      ),
-    )
+    let n = c .before in
+    let e = n .before .before .before .before .before in
+    (known e, ((phases-are e, taps-are e), (places-are e, ranged (n .before))))
+
+-- where numbers 5 and 6 are not given either, number 7 is left
+seventh : (c : tie.Else6) → let e = c .before .before .before .before .before .before in bookNumber (book e) ≡ refuse 7 (not (sumsInRange (book e)))
+unfolding _otherwise_
+seventh c =
+    let n = c .before in
+    let e = n .before .before .before .before .before in
+    from-5 e (ranged (n .before)) ∙ ap (λ m. m otherwise refuse 7 (not (sumsInRange (book e)))) (sym (n .impulse-number2 .ensures) ∙ c .if6 .left)
 
 returns-7 : tie.Need-returns-7
-unfolding bookNumber refuse _otherwise_
-returns-7 c =
-    let e6 = c .before .before in
-    let e5 = e6 .before .before in
-    let e4 = e5 .before .before in
-    let e3 = e4 .before .before in
-    let r = e3 .before .before .before in
-    simp (
-      long (r .before .before .before),
-      sized (r .before),
-      eq-eqb _ _ (lengthy e3),
-      ranged e4,
-      zeroed e5,
-      different e6,
-      test-fails (c .before .sums-in-range .ensures) (c .if7 .taken),
-    )
+unfolding refuse
+returns-7 c = sym (seventh (c .before .before) ∙ simp (test-fails (c .before .sums-in-range .ensures) (c .if7 .taken)))
 
 returns-8 : tie.Need-returns-8
-unfolding bookNumber refuse _otherwise_
-returns-8 c =
-    let e6 = c .before .before in
-    let e5 = e6 .before .before in
-    let e4 = e5 .before .before in
-    let e3 = e4 .before .before in
-    let r = e3 .before .before .before in
-    simp (long (r .before .before .before), sized (r .before), eq-eqb _ _ (lengthy e3), ranged e4, zeroed e5, different e6, summed c)
+unfolding refuse
+returns-8 c = sym (seventh (c .before .before) ∙ simp (test-holds (c .before .sums-in-range .ensures) (c .if7 .left)))
 
 pub check-spec : {M : Type 1} → statement M
 check-spec =
@@ -232,11 +214,12 @@ check-spec =
     add-if3
     add-if3-2
     returns-3
-    coefficients-in-range-requires
+    settled-requires
+    impulse-number-requires
     returns-4
-    shared-slice-copy-out-if5
+    coefficients-in-range-requires
     returns-5
-    differences-right-requires
+    impulse-number-requires-2
     returns-6
     sums-in-range-requires
     returns-7
