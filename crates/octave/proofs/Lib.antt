@@ -1,2 +1,2 @@
 pub mod Octave
-pub mod GroupSums
+pub mod PairSums

@@ -1,10 +1,33 @@
 -- Definitions that only inner functions' contracts cite: no rule of document 01, but a step of the code that computes one.
 use mathlib.Core.List.{List}
-use Prim.Native.Nat.{ℕ, _+_, _*_}
-use lib.IntN.{ℤ, pos, natAbs, _+ℤ_, _*ℤ_}
-use Rattle.arith.specs.Lists.{at, wordAt, tabulate}
-use Rattle.arith.specs.Sum.{sumAround}
+use mathlib.Core.Path.{_≡_}
+use Prim.Native.Nat.{ℕ, _+_, _*_, _<_, pred}
+use lib.IntN.{ℤ, pos, negsuc, natAbs, _+ℤ_, _-ℤ_, _*ℤ_}
+use lib.ListN.{length}
+use Rattle.arith.specs.Floor.{floorDiv}
+use Rattle.arith.specs.Limit.{limit}
+use Rattle.arith.specs.Lists.{at}
+use Rattle.arith.specs.Sum.{sum}
 
--- the sums over the taps up to tap k, around word c and each second word after it, n in all
-abbrev pub sumsAround : List ℤ → List ℤ → ℕ → ℕ → ℕ → List ℤ
-sumsAround h level k c n = tabulate n (λ j. sumAround k (λ i. at h (natAbs i) *ℤ wordAt level (pos (c + 2 * j) +ℤ i)))
+-- tap c in the order of time, limited to 16 bits; 0 behind the last
+abbrev pub timeTap : List ℤ → ℕ → ℤ
+timeTap h c = limit (negsuc 32767) (pos 32767) (at h (natAbs (pos c -ℤ pos (pred (length h)))))
+
+-- pair k of them stands sixteen times from place 32 k on
+abbrev pub Rows : List ℤ → List ℤ → Type 0
+Rows h rows = (k j : ℕ) → k < length h → j < 16 → (at rows (32 * k + 2 * j) ≡ timeTap h (2 * k)) × (at rows (32 * k + 2 * j + 1) ≡ timeTap h (2 * k + 1))
+
+-- a word in two parts of 16 bits: 65536 × upper + lower
+abbrev pub upperPart : ℤ → ℤ
+upperPart x = floorDiv (x +ℤ pos 32768) 65536
+
+abbrev pub lowerPart : ℤ → ℤ
+lowerPart x = x -ℤ upperPart x *ℤ pos 65536
+
+-- what pair k adds to sum j, which begins at word 2j
+abbrev pub pairProduct : List ℤ → List ℤ → ℕ → ℕ → ℤ
+pairProduct rows words k j = at rows (32 * k + 2 * j) *ℤ at words (2 * k + 2 * j) +ℤ at rows (32 * k + 2 * j + 1) *ℤ at words (2 * k + 2 * j + 1)
+
+-- sum j over the pairs below m
+abbrev pub pairSum : List ℤ → List ℤ → ℕ → ℕ → ℤ
+pairSum rows words m j = sum m (λ k. pairProduct rows words k j)

@@ -9,37 +9,15 @@ ghost use Rattle.arith.specs.Sum.{sumAround};
 ghost use Rattle.book.specs.Check.{tapSum};
 ghost use Rattle.octave.specs.Octave.{halfLength, levelWord, nextLevel};
 use crate::groups::write_group;
-use crate::sums::first_product;
-use crate::sums::with_tap;
+use crate::groups::write_rows;
 
-mod groups; // several words of a level at a time
-mod sums; // a sum around a word, tap by tap
+mod groups; // sixteen words of a level at a time
 
 // Half of a length, rounded up.
 pub fn half_length(n: usize) -> usize
     ensures { λ r. ⌜ r ≡ halfLength n ⌝ }
 {
     n - n / 2
-}
-
-// The sum of taps times words around word `centre`, where all of it lies inside the level: no word is tested. Two taps in a turn, which
-// the compiler turns into faster code than one.
-fn centred_sum(level: &[i32], taps: &[i32], centre: usize) -> i64
-    requires { ⌜ (1 ≤ length (now taps)) × (tapSum (now taps) ≤ 32768) × (length (now taps) ≤ centre + 1) × (centre + length (now taps) ≤ length (now level)) ⌝ }
-    requires { ⌜ ((k : ℕ) → natAbs (at (now level) k) ≤ 2 ^ 29) ⌝ }
-    ensures { λ r. ⌜ r ≡ sumAround (pred (length (now (taps .entry)))) (λ k. at (now (taps .entry)) (natAbs k) *ℤ wordAt (now (level .entry)) (pos centre +ℤ k)) ⌝ }
-{
-    let mut sum = first_product(level, taps, centre);
-    let mut k = 1;
-    while k + 1 < taps.len() {
-        let one = with_tap(level, taps, k, centre - k, centre + k, sum);
-        sum = with_tap(level, taps, k + 1, centre - k - 1, centre + k + 1, one);
-        k += 2;
-    }
-    if k < taps.len() {
-        return with_tap(level, taps, k, centre - k, centre + k, sum);
-    }
-    sum
 }
 
 // Word `centre` − k, or 0 before the level.
@@ -66,8 +44,17 @@ fn word_after(level: &[i32], centre: usize, k: usize) -> i64
     }
 }
 
-// The same sum near an edge, words outside the level being 0.
-fn edge_sum(level: &[i32], taps: &[i32], centre: usize) -> i64
+// The centre's product: the sum over the first tap alone.
+fn first_product(level: &[i32], taps: &[i32], centre: usize) -> i64
+    requires { ⌜ (1 ≤ length (now taps)) × (tapSum (now taps) ≤ 32768) × (centre < length (now level)) ⌝ }
+    requires { ⌜ ((k : ℕ) → natAbs (at (now level) k) ≤ 2 ^ 29) ⌝ }
+    ensures { λ r. ⌜ r ≡ sumAround 0 (λ k. at (now (taps .entry)) (natAbs k) *ℤ wordAt (now (level .entry)) (pos centre +ℤ k)) ⌝ }
+{
+    taps[0] as i64 * level[centre] as i64
+}
+
+// The sum of taps times words around word `centre`, words outside the level being 0.
+fn sum_around(level: &[i32], taps: &[i32], centre: usize) -> i64
     requires { ⌜ (1 ≤ length (now taps)) × (length (now taps) ≤ 41) × (tapSum (now taps) ≤ 32768) × (centre < length (now level)) ⌝ }
     requires { ⌜ ((k : ℕ) → natAbs (at (now level) k) ≤ 2 ^ 29) ⌝ }
     ensures { λ r. ⌜ r ≡ sumAround (pred (length (now (taps .entry)))) (λ k. at (now (taps .entry)) (natAbs k) *ℤ wordAt (now (level .entry)) (pos centre +ℤ k)) ⌝ }
@@ -81,23 +68,17 @@ fn edge_sum(level: &[i32], taps: &[i32], centre: usize) -> i64
     sum
 }
 
-// Word n of the level above.
+// Word n of the level above, wherever it lies.
 fn level_word(level: &[i32], taps: &[i32], n: usize) -> i32
     requires { ⌜ (1 ≤ length (now taps)) × (length (now taps) ≤ 41) × (tapSum (now taps) ≤ 32768) × (2 * n < length (now level)) ⌝ }
     requires { ⌜ ((k : ℕ) → natAbs (at (now level) k) ≤ 2 ^ 26) ⌝ }
     ensures { λ r. ⌜ r ≡ levelWord (now (taps .entry)) (now (level .entry)) n ⌝ }
 {
-    let centre = 2 * n;
-    let reach = taps.len() - 1;
-    if reach <= centre {
-        if reach < level.len() - centre {
-            return arith::near(centred_sum(level, taps, centre), 8192) as i32;
-        }
-    }
-    arith::near(edge_sum(level, taps, centre), 8192) as i32
+    arith::near(sum_around(level, taps, 2 * n), 8192) as i32
 }
 
-// Writes the level above the `words` words from place `start` on behind them.
+// Writes the level above the `words` words from place `start` on behind them: in groups inside, and word by word near its ends. A centre tap of 32768
+// has no 16-bit number, so that its level is written word by word too.
 pub fn next_level(taps: &[i32], store: &mut [i32], start: usize, words: usize)
     requires { ⌜ (1 ≤ length (now taps)) × (length (now taps) ≤ 41) × (tapSum (now taps) ≤ 32768) × (start + words + halfLength words ≤ length (now store)) ⌝ }
     requires { ⌜ ((k : ℕ) → natAbs (at (part (now store) start words) k) ≤ 2 ^ 26) ⌝ }
@@ -105,10 +86,14 @@ pub fn next_level(taps: &[i32], store: &mut [i32], start: usize, words: usize)
 {
     let next = start + words;
     let half = half_length(words);
+    let mut rows = [0i16; 1312];
+    write_rows(taps, &mut rows);
+    let mut high = [0i16; 112];
+    let mut low = [0i16; 112];
     let mut n = 0;
     while n < half {
-        if taps.len() <= 2 * n + 1 && 2 * n + taps.len() + 30 <= words {
-            write_group(taps, store, start, words, n);
+        if taps[0] < 32768 && taps.len() <= 2 * n + 1 && 2 * n + taps.len() + 31 <= words {
+            write_group(taps, &rows, &mut high, &mut low, store, start, words, n);
             n += 16;
         } else {
             let x = level_word(&store[start..next], taps, n);

@@ -1,6 +1,6 @@
 -- `octave::next_level` meets its contract. The loop's invariant: the store is as it was, with the first n words of the level above written
 -- behind the level. Assumes nothing.
-use mathlib.Core.Path.{_≡_, sym, ap, ap₂, _∙_}
+use mathlib.Core.Path.{_≡_, refl, sym, ap, ap₂, _∙_}
 use mathlib.Core.List.{List}
 use Prim.Native.Nat.{ℕ, _+_, _*_, _-_, _≤_, _<_}
 use native.Mathlib.Omega.{arith}
@@ -9,11 +9,14 @@ use borrow.Author.Tests.{leb-true}
 use lib.IntN.{ℤ, pos}
 use lib.ListN.{length, take, drop, set}
 use lib.Seq.{paste, length-paste}
+use lib.Signed.{_<ℤ_}
 use mir.Syntax.{w32}
 use mir.Val.{SFits}
 use Rattle.arith.specs.Lists.{at, part, overwrite}
 use Rattle.arith.proofs.Bits.{reads}
+use Rattle.arith.proofs.Linear.{lt-yes}
 use Rattle.arith.proofs.Lists.{part-length, paste-none, paste-more, paste-all}
+use Rattle.book.proofs.Around.{tap-fits}
 use Rattle.octave.specs.Octave.{halfLength, levelWord, nextLevel}
 use Rattle.octave.proofs.Octave.{halfLength-inside, halfLength-holds, length-next, at-next}
 use Rattle.arith.proofs.Parts.{part-paste, paste-part}
@@ -21,10 +24,11 @@ use Rattle.octave.proofs.next_level.Statement.{statement}
 use Rattle.octave.proofs.next_level.Tie as tie
 
 abbrev Inv-loop : tie.InvT-loop
-Inv-loop taps store₀ start words next half n₀ store n = (n ≤ half) × (store ≡ paste store₀ next (nextLevel taps (part store₀ start words)) n)
+Inv-loop taps store₀ start words next half rows high₀ low₀ n₀ store high low n =
+    (n ≤ half) × (store ≡ paste store₀ next (nextLevel taps (part store₀ start words)) n) × (length high ≡ 112) × (length low ≡ 112)
 
 abbrev μ-loop : tie.MeasureT-loop
-μ-loop taps store₀ start words next half n₀ store n = half - n
+μ-loop taps store₀ start words next half rows high₀ low₀ n₀ store high low n = half - n
 
 module _ (s : tie.Start Inv-loop μ-loop) where
   abbrev taps : List ℤ
@@ -48,13 +52,16 @@ module _ (s : tie.Start Inv-loop μ-loop) where
 -- at each turn
 module _ (a : tie.At-loop Inv-loop μ-loop) where
   abbrev s : tie.Start Inv-loop μ-loop
-  s = a .before .before
+  s = a .before .before .before .before
 
   abbrev n : ℕ
   n = a .loop .n
 
+  half-is : a .before .before .before .half-length .result ≡ halfLength (s .args .words)
+  half-is = a .before .before .before .half-length .ensures
+
   inside : n ≤ length (above s)
-  inside = omega (arith, a .before .half-length .ensures, length-above s)
+  inside = omega (arith, half-is, length-above s)
 
   same-length-now : length (a .loop .store) ≡ length (s .args .store .now)
   same-length-now = ap length (a .loop .inv .1) ∙ length-paste (s .args .store .now) (next s) (above s) n (omega (arith, inside, length-above s)) inside
@@ -70,43 +77,48 @@ module _ (a : tie.At-loop Inv-loop μ-loop) where
       ap (λ m. take m (drop (s .args .start) (a .loop .store))) e ∙ level-now
 
 -- where a group lies inside
-module _ (t : tie.Then2 Inv-loop μ-loop) where
+module _ (t : tie.Then3 Inv-loop μ-loop) where
   abbrev w : tie.At-loop Inv-loop μ-loop
-  w = t .before .before .before
+  w = t .before .before .before .before .before
 
-  group-words : 2 * n w + length (taps (s w)) + 30 ≤ s w .args .words
-  group-words = leb-true _ _ (t .if2 .taken)
+  group-words : 2 * n w + length (taps (s w)) + 31 ≤ s w .args .words
+  group-words = leb-true _ _ (t .if3 .taken)
+
+  centre-narrow : at (taps (s w)) 0 <ℤ pos 32768
+  centre-narrow =
+      let f = tap-fits (taps (s w)) (s w .pre .0 .2) 0 (s w .pre .0 .0) in
+      lt-yes (simp (reads, f) at (t .before .before .if1 .taken))
 
   group-half : n w + 16 ≤ halfLength (s w .args .words)
   group-half = omega (arith, group-words, halfLength-holds (s w .args .words) (n w + 15) (omega (arith, group-words)))
 
 -- the words that it writes
-group-written : (c : tie.After-write-group Inv-loop μ-loop) → let a = w (c .before .before) in
-    c .write-group .last .1 .0 ≡ paste (s a .args .store .now) (next (s a)) (above (s a)) (n a + 16)
+group-written : (c : tie.After-write-group Inv-loop μ-loop) → let a = w (c .before .before .before .before .before) in
+    c .write-group .last .1 .1 .1 .1 .0 ≡ paste (s a .args .store .now) (next (s a)) (above (s a)) (n a + 16)
 group-written c =
-    let t = c .before .before in
+    let t = c .before .before .before .before .before in
     let a = w t in
-    _∙_ {b = overwrite (a .loop .store) (next (s a) + n a) (part (nextLevel (taps (s a)) (part (a .loop .store) (s a .args .start) (s a .args .words))) (n a) 16)} (c .write-group .ensures)
+    _∙_ {b = overwrite (a .loop .store) (next (s a) + n a) (part (nextLevel (taps (s a)) (part (a .loop .store) (s a .args .start) (s a .args .words))) (n a) 16)} (c .write-group .ensures .0)
     (ap₂ (λ xs l. overwrite xs (next (s a) + n a) (part (nextLevel (taps (s a)) l) (n a) 16)) (a .loop .inv .1) (level-now a)
     ∙ paste-part (s a .args .store .now) (above (s a)) (next (s a)) (n a) 16 (omega (arith, group-half t)) (omega (arith, group-half t, length-above (s a))))
 
 -- the word that a turn writes
 module _ (c : tie.After-level-word Inv-loop μ-loop) where
   abbrev a : tie.At-loop Inv-loop μ-loop
-  a = c .before .before .before .before .before
+  a = c .before .before .before .before .before .before
 
   word-fits : SFits w32 (c .level-word .result)
   word-fits = record { sfits = c .level-word .ok }
 
   word-is : c .level-word .result ≡ at (above (s a)) (n a)
   word-is =
-      let h : n a < halfLength (length (level (s a))) = omega (arith, a .before .half-length .ensures, ap halfLength (length-level (s a))) in
+      let h : n a < halfLength (length (level (s a))) = omega (arith, half-is a, ap halfLength (length-level (s a))) in
       c .level-word .ensures ∙ ap (λ l. levelWord (taps (s a)) l (n a)) (same-level a) ∙ sym (at-next (taps (s a)) (level (s a)) (n a) h)
 
   written : set (a .loop .store) (next (s a) + n a) (c .level-word .result) ≡ paste (s a .args .store .now) (next (s a)) (above (s a)) (n a + 1)
   written =
       ap (λ l. set l (next (s a) + n a) (c .level-word .result)) (a .loop .inv .1)
-      ∙ paste-more (s a .args .store .now) (next (s a)) (above (s a)) (n a) (pos 0) (c .level-word .result) (omega (arith, a .before .half-length .ensures)) (omega (arith, a .before .half-length .ensures, length-above (s a))) word-is
+      ∙ paste-more (s a .args .store .now) (next (s a)) (above (s a)) (n a) (pos 0) (c .level-word .result) (omega (arith, half-is a)) (omega (arith, half-is a, length-above (s a))) word-is
 
 add-next : tie.Need-add-next Inv-loop μ-loop
 add-next c = omega arith
@@ -114,14 +126,14 @@ add-next c = omega arith
 half-length-requires : tie.Need-half-length-requires Inv-loop μ-loop
 half-length-requires c κs = search needs
 
+write-rows-requires : tie.Need-write-rows-requires Inv-loop μ-loop
+write-rows-requires c κs = let s = c .before .before in (s .pre .0 .0, s .pre .0 .1, s .pre .0 .2, refl)
+
 loop-holds : tie.Need-loop-holds Inv-loop μ-loop
-loop-holds c = (omega arith, paste-none (c .before .args .store .now) (next (c .before)) (above (c .before)))
+loop-holds c = let s = c .before .before .before in (omega arith, paste-none (s .args .store .now) (next s) (above s), refl, refl)
 
-mul-if1 : tie.Need-mul-if1 Inv-loop μ-loop
-mul-if1 c = omega arith
-
-add-if1 : tie.Need-add-if1 Inv-loop μ-loop
-add-if1 c = omega arith
+shared-slice-copy-out-if1 : tie.Need-shared-slice-copy-out-if1 Inv-loop μ-loop
+shared-slice-copy-out-if1 c = omega arith
 
 mul-if2 : tie.Need-mul-if2 Inv-loop μ-loop
 mul-if2 c = omega arith
@@ -129,27 +141,37 @@ mul-if2 c = omega arith
 add-if2 : tie.Need-add-if2 Inv-loop μ-loop
 add-if2 c = omega arith
 
-add-if2-2 : tie.Need-add-if2-2 Inv-loop μ-loop
-add-if2-2 c = omega arith
+mul-if3 : tie.Need-mul-if3 Inv-loop μ-loop
+mul-if3 c = omega arith
+
+add-if3 : tie.Need-add-if3 Inv-loop μ-loop
+add-if3 c = omega arith
+
+add-if3-2 : tie.Need-add-if3-2 Inv-loop μ-loop
+add-if3-2 c = omega arith
 
 write-group-requires : tie.Need-write-group-requires Inv-loop μ-loop
 write-group-requires c κs =
-    let t = c .before in
+    let t = c .before .before .before .before in
     let a = w t in (
-      (s a .pre .0 .0, s a .pre .0 .2, omega arith, omega (arith, group-words t), omega (arith, group-half t, same-length-now a)),
-      λ k. rw (level-now a) (s a .pre .1 k),
+      (s a .pre .0 .0, s a .pre .0 .1, s a .pre .0 .2, centre-narrow t, a .before .write-rows .ensures),
+      (
+        (leb-true _ _ (t .before .if2 .taken), group-words t, omega (arith, group-half t, same-length-now a), a .loop .inv .2, a .loop .inv .3),
+        λ k. rw (level-now a) (s a .pre .1 k),
+      ),
     )
 
 add-n : tie.Need-add-n Inv-loop μ-loop
-add-n c = omega (arith, group-words (c .before .before .before))
+add-n c = omega (arith, group-words (c .before .before .before .before .before .before))
 
 loop-less : tie.Need-loop-less Inv-loop μ-loop
 loop-less c = omega arith
 
 loop-again : tie.Need-loop-again Inv-loop μ-loop
 loop-again c =
-    let t = c .before .before .before in
-    (omega (arith, group-half t, w t .before .half-length .ensures), group-written (c .before))
+    let g = c .before in
+    let t = g .before .before .before .before .before in
+    (omega (arith, group-half t, half-is (w t)), group-written g, g .write-group .ensures .1 .0, g .write-group .ensures .1 .1)
 
 mul-level-word : tie.Need-mul-level-word Inv-loop μ-loop
 mul-level-word c = omega arith
@@ -161,13 +183,13 @@ part-level-word-start : tie.Need-part-level-word-start Inv-loop μ-loop
 part-level-word-start c = omega arith
 
 part-level-word-end : tie.Need-part-level-word-end Inv-loop μ-loop
-part-level-word-end c = omega (arith, same-length-now (c .before .before .before))
+part-level-word-end c = omega (arith, same-length-now (c .before .before .before .before))
 
 level-word-requires : tie.Need-level-word-requires Inv-loop μ-loop
 level-word-requires c κs =
-    let a = c .before .before .before .before in
-    let s = a .before .before in
-    let h : n a < halfLength (s .args .words) = omega (arith, a .before .half-length .ensures) in (
+    let a = c .before .before .before .before .before in
+    let s = s a in
+    let h : n a < halfLength (s .args .words) = omega (arith, half-is a) in (
       (
         s .pre .0 .0,
         s .pre .0 .1,
@@ -193,7 +215,7 @@ loop-less-2 : tie.Need-loop-less-2 Inv-loop μ-loop
 loop-less-2 c = omega arith
 
 loop-again-2 : tie.Need-loop-again-2 Inv-loop μ-loop
-loop-again-2 c = (omega arith, simp (reads, word-fits c) (written c))
+loop-again-2 c = (omega arith, simp (reads, word-fits c) (written c), a c .loop .inv .2, a c .loop .inv .3)
 
 same-length : tie.Need-same-length Inv-loop μ-loop
 same-length c = same-length-now (c .before)
@@ -201,7 +223,7 @@ same-length c = same-length-now (c .before)
 returns : tie.Need-returns Inv-loop μ-loop
 returns c =
     let a = c .before in
-    a .loop .inv .1 ∙ paste-all (s a .args .store .now) (next (s a)) (above (s a)) (n a) (omega (arith, a .before .half-length .ensures, length-above (s a)))
+    a .loop .inv .1 ∙ paste-all (s a .args .store .now) (next (s a)) (above (s a)) (n a) (omega (arith, half-is a, length-above (s a)))
 
 pub next-level-spec : {M : Type 1} → statement M
 next-level-spec =
@@ -211,12 +233,14 @@ next-level-spec =
     μ-loop
     add-next
     half-length-requires
+    write-rows-requires
     loop-holds
-    mul-if1
-    add-if1
+    shared-slice-copy-out-if1
     mul-if2
     add-if2
-    add-if2-2
+    mul-if3
+    add-if3
+    add-if3-2
     write-group-requires
     add-n
     loop-less

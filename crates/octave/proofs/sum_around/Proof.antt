@@ -1,4 +1,4 @@
--- `octave::edge_sum` meets its contract. The loop's invariant: the sum's bits are those of the sum over the taps below k. Assumes nothing.
+-- `octave::sum_around` meets its contract. The loop's invariant: the sum's bits are those of the sum over the taps below k. Assumes nothing.
 use mathlib.Core.Path.{_≡_, sym, ap}
 use mathlib.Core.List.{List}
 use Prim.Native.Nat.{ℕ, _+_, _-_, _^_, _≤_}
@@ -12,8 +12,8 @@ use Rattle.arith.specs.Lists.{at}
 use Rattle.arith.proofs.Bits.{reads}
 use Rattle.arith.proofs.Lists.{wordAt-bound}
 use Rattle.book.proofs.Around.{around, around-more, around-fits, word-fits, pair-fits, tap-fits, tapped-fits}
-use Rattle.octave.proofs.edge_sum.Statement.{statement}
-use Rattle.octave.proofs.edge_sum.Tie as tie
+use Rattle.octave.proofs.sum_around.Statement.{statement}
+use Rattle.octave.proofs.sum_around.Tie as tie
 
 abbrev Inv-loop : tie.InvT-loop
 Inv-loop level taps centre sum₀ k₀ sum k = (1 ≤ k) × (k ≤ length taps) × (sum ≡ ofZ w64 (around taps level centre k))
@@ -133,8 +133,8 @@ returns c =
     let e : a .loop .k ≡ length (taps s) = omega arith in
     simp (a .loop .inv .2, e, reads, partial s (length (taps s)) (omega arith))
 
-pub edge-sum-spec : {M : Type 1} → statement M
-edge-sum-spec =
+pub sum-around-spec : {M : Type 1} → statement M
+sum-around-spec =
     tie.close
     (tie.spec
     Inv-loop

@@ -1,4 +1,4 @@
--- `octave::sums::first_product` meets its contract: the sum over one tap is its product. Assumes nothing.
+-- `octave::first_product` meets its contract: the sum over one tap is its product. Assumes nothing.
 use mathlib.Core.Path.{sym}
 use mathlib.Core.List.{List}
 use Prim.Native.Nat.{ℕ}
@@ -10,8 +10,8 @@ use mir.Facts.{sfits-widen}
 use Rattle.arith.specs.Lists.{at}
 use Rattle.arith.proofs.Bits.{reads}
 use Rattle.book.proofs.Around.{around-one, first-fits, word-fits, tap-fits}
-use Rattle.octave.proofs.sums.first_product.Statement.{statement}
-use Rattle.octave.proofs.sums.first_product.Tie as tie
+use Rattle.octave.proofs.first_product.Statement.{statement}
+use Rattle.octave.proofs.first_product.Tie as tie
 
 module _ (s : tie.Start) where
   abbrev level : List ℤ
