@@ -106,7 +106,7 @@ pub fn point_plan(c: Control) -> Plan
 }
 
 // The fade after a point: over when i reaches F.
-fn fade_after(p: Plan, fade: u32) -> Fade
+pub fn fade_after(p: Plan, fade: u32) -> Fade
     ensures { λ r. ⌜ r ≡ fadeAfter fade p ⌝ }
 {
     if p.step == fade {

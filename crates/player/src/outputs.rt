@@ -1,6 +1,5 @@
 // Blocks of outputs: run after run along a line of points.
 
-ghost use mathlib.Core.Bool.{true};
 ghost use mathlib.Core.Path.{_≡_};
 ghost use Prim.Native.Nat.{ℕ, _+_, _*_, _^_, _≤_, _<_, min};
 ghost use lib.IntN.{natAbs};
@@ -9,7 +8,7 @@ ghost use Rattle.arith.specs.Lists.{at, part, overwrite};
 ghost use Rattle.refusals.specs.Refusals.{playNumber, pointBound};
 ghost use Rattle.player.specs.Calls.{played, playAnswer};
 ghost use Rattle.values.specs.Layout.{LayoutOf};
-ghost use Rattle.windows.specs.Inner.{TableOf};
+ghost use Rattle.windows.specs.Rows.{RowsOf};
 ghost use Rattle.player.specs.Inner.{lineOf};
 use crate::PlayAnswer;
 use crate::Voice;
@@ -18,7 +17,8 @@ use multiplies::block_multiplies;
 use points::next_points;
 use values::layout::Layout;
 use values::layout::layout_of;
-use windows::table::stage_rows;
+use windows::rows::row_width;
+use windows::rows::stage_rows;
 
 // The line before a run: a history, widened to 64 bits, from place 128 on.
 fn line_of(history: [i32; 81]) -> [i64; 209]
@@ -69,16 +69,16 @@ fn run_length(left: usize) -> usize
     64
 }
 
-// Fills the output slice with the help of a book's table, or of none.
+// Fills the output slice with the help of a book's rows.
 fn fill_by(
-    table: &[i64],
+    table: &[i16],
     v: Voice,
     book: &[i32],
     store: &[i32],
     layout: Layout,
     out: &mut [i16],
 ) -> PlayAnswer
-    requires { ⌜ ((length (now table) ≡ 0 → ⊥) → TableOf (now book) (now table)) ⌝ }
+    requires { ⌜ RowsOf (now book) (now table) ⌝ }
     requires { ⌜ LayoutOf (now book) (now store) (v .control .top) layout × (playNumber (now book) (now store) (v .control) pointBound (v .history) (length (now out)) ≡ 0) ⌝ }
     ensures { λ r. ⌜ played (r .number) (r .voice) (r .multiplies) (now (out .exit)) ≡ playAnswer (now (book .entry)) (now (store .entry)) v (now (out .entry)) ⌝ }
 {
@@ -106,18 +106,7 @@ fn fill_by(
     }
 }
 
-// Whether to make a table: it has room for 832 impulses with a word a phase, and some 130 outputs pay for it.
-fn table_pays(outputs: usize, phases: usize, taps: usize) -> bool
-    requires { ⌜ (phases ≤ 128) × (taps ≤ 24) ⌝ }
-    ensures { λ r. ⌜ (r ≡ true → phases * (taps + 1) ≤ 832) ⌝ }
-{
-    if outputs < 256 {
-        return false;
-    }
-    phases * (taps + 1) <= 832
-}
-
-// Fills the output slice.
+// Fills the output slice. Most books' rows have room in the smaller table, which takes less time to clear.
 pub(crate) fn fill(v: Voice, book: &[i32], store: &[i32], out: &mut [i16]) -> PlayAnswer
     requires { ⌜ playNumber (now book) (now store) (v .control) pointBound (v .history) (length (now out)) ≡ 0 ⌝ }
     ensures { λ r. ⌜ played (r .number) (r .voice) (r .multiplies) (now (out .exit)) ≡ playAnswer (now (book .entry)) (now (store .entry)) v (now (out .entry)) ⌝ }
@@ -125,11 +114,12 @@ pub(crate) fn fill(v: Voice, book: &[i32], store: &[i32], out: &mut [i16]) -> Pl
     let layout = layout_of(book, store);
     let phases = layout.phases;
     let taps = layout.taps;
-    if table_pays(out.len(), phases, taps) {
-        let mut table = [0i64; 1664];
+    if (phases + 1) * row_width(taps) <= 1040 {
+        let mut table = [0i16; 1040];
         stage_rows(&mut table, book, phases, taps);
         return fill_by(&table, v, book, store, layout, out);
     }
-    let none = [0i64; 1];
-    fill_by(&none[0..0], v, book, store, layout, out)
+    let mut table = [0i16; 4128];
+    stage_rows(&mut table, book, phases, taps);
+    fill_by(&table, v, book, store, layout, out)
 }

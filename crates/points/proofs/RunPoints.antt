@@ -1,15 +1,20 @@
 -- The points of a run of outputs. Assumes nothing.
-use mathlib.Core.Path.{_≡_, refl, ap, ap₂, _∙_}
+use mathlib.Core.Path.{_≡_, refl, sym, ap, ap₂, _∙_}
+use mathlib.Core.Bool.{cond}
 use mathlib.Core.List.{List, _∷_, _++_}
 use Prim.Native.Nat.{ℕ, zero, suc, _+_, _-_, _*_, _<_}
 use native.Mathlib.Omega.{arith}
+use borrow.Author.Tests.{ne-eqb}
+use lib.Dec.{eqb}
 use lib.IntN.{ℤ, pos}
 use lib.ListN.{length, drop}
 use Rattle.arith.specs.Lists.{at, tabulate}
 use Rattle.arith.proofs.Lists.{tabulate-ext}
 use Rattle.control.specs.declared.Control.{Control}
 use Rattle.control.specs.declared.Plan.{Plan}
-use Rattle.positions.specs.Runs.{firstPlan, secondPlan}
+use Rattle.positions.specs.Runs.{firstPlan, secondPlan, runPlan}
+use Rattle.multiplies.specs.Multiplies.{valuesMade}
+use Rattle.multiplies.specs.Inner.{runValues}
 use Rattle.points.specs.Runs.{runPoints}
 
 module _ (make : Plan → ℤ) (F : ℕ) (c : Control) where
@@ -49,3 +54,23 @@ module _ (make : Plan → ℤ) (F : ℕ) (c : Control) where
       let rest : tabulate (2 * n) (λ j. f (suc (suc (2 * n)) - suc (suc (suc j)))) ≡ tabulate (2 * n) (λ j. f (2 * n - suc j)) = tabulate-ext (2 * n) (λ j l. ap f (omega arith)) in
       ap (λ m. tabulate m (λ j. f (m - suc j))) e
       ∙ ap₂ _∷_ (ap f two ∙ x .1) (ap₂ _∷_ (ap f one ∙ x .0) (rest ∙ run-tabulate f n (λ k l. h k (omega arith))))
+
+-- ---- the level values of a run
+
+-- each point of it makes as many
+pub run-made : (p : Plan) (k P : ℕ) → valuesMade (runPlan p k P .step) ≡ valuesMade (p .step)
+unfolding valuesMade
+run-made p k P = go (p .step)
+  where
+    go : (s : ℕ) → _≡_ {A = ℕ} (cond (eqb (cond (eqb s 0) 0 (s + k)) 0) 1 2) (cond (eqb s 0) 1 2)
+    go zero = refl
+    go (suc s) =
+        let n = ne-eqb (suc s) 0 (λ e. omega arith) in
+        ap (λ t. cond (eqb (cond t 0 (suc s + k)) 0) 1 2) n ∙ ap (λ t. cond t 1 2) (ne-eqb (suc s + k) 0 (λ e. omega arith)) ∙ ap (λ t. cond t 1 2) (sym n)
+
+pub values-run : (F : ℕ) (c : Control) (m n : ℕ) → ((k : ℕ) → k < n → (valuesMade (firstPlan F c k .step) ≡ m) × (valuesMade (secondPlan F c k .step) ≡ m)) → runValues F c n ≡ 2 * n * m
+unfolding runValues
+values-run F c m zero h = omega arith
+values-run F c m (suc n) h =
+    let last = h n (omega arith) in
+    omega (arith, values-run F c m n (λ k l. h k (omega arith)), last .0, last .1)

@@ -6,24 +6,23 @@ ghost use Prim.Native.Nat.{_-_, _*_, _≤_};
 ghost use lib.ListN.{length};
 ghost use Rattle.arith.specs.Lists.{overwrite};
 ghost use Rattle.values.specs.Layout.{LayoutOf};
-ghost use Rattle.windows.specs.Inner.{TableOf};
+ghost use Rattle.windows.specs.Rows.{RowsOf};
 ghost use Rattle.control.specs.Valid.{Valid};
 ghost use Rattle.positions.specs.Runs.{controlAfter};
 ghost use Rattle.multiplies.specs.Inner.{runValues};
 ghost use Rattle.points.specs.Points.{point};
 ghost use Rattle.points.specs.Runs.{runPoints};
-use crate::point::point_of;
+use crate::planned::one_point;
+use crate::planned::planned_points;
 use control::Control;
 use control::moves::glide_moved;
 use control::moves::point_moved;
 use control::moves::point_plan;
 use multiplies::values_made;
-use positions::steady_positions;
+use positions::run_positions;
 use values::layout::Layout;
-use values::layout::level_words;
-use windows::window::steady_points;
 
-mod point; // a point from its plan
+mod planned; // points from their plans
 
 // What the points of some outputs leave: the control, how many outputs they are of, and how many level values they took.
 pub struct PointRun {
@@ -33,31 +32,26 @@ pub struct PointRun {
 }
 
 // Writes the two points of one output, whatever they need.
-fn one_output(line: &mut [i64], c: Control, book: &[i32], store: &[i32], layout: Layout) -> PointRun
-    requires { ⌜ LayoutOf (now book) (now store) (c .top) layout × Valid (layout .fade) c × (length (now line) ≡ 209) ⌝ }
+fn one_output(
+    line: &mut [i64],
+    c: Control,
+    book: &[i32],
+    store: &[i32],
+    layout: Layout,
+    table: &[i16],
+) -> PointRun
+    requires { ⌜ LayoutOf (now book) (now store) (c .top) layout × Valid (layout .fade) c × (length (now line) ≡ 209) × RowsOf (now book) (now table) ⌝ }
     ensures { λ r. ⌜ (r .made ≡ 1) × (r .control ≡ controlAfter (layout .fade) c 1) × (r .values ≡ runValues (layout .fade) c 1) × (now (line .exit) ≡ overwrite (now (line .entry)) 126 (runPoints (point (now (book .entry)) (now (store .entry))) (layout .fade) c 1)) ⌝ }
 {
     let fade = layout.fade;
     let one = glide_moved(c);
     let p = point_plan(one);
-    let first = point_of(
-        book,
-        layout,
-        level_words(store, layout, p.old),
-        level_words(store, layout, p.new),
-        p,
-    );
+    let first = one_point(p, book, store, layout, table);
     let two = point_moved(one, fade);
     let q = point_plan(two);
-    let second = point_of(
-        book,
-        layout,
-        level_words(store, layout, q.old),
-        level_words(store, layout, q.new),
-        q,
-    );
-    line[126] = second as i64;
-    line[127] = first as i64;
+    let second = one_point(q, book, store, layout, table);
+    line[126] = second;
+    line[127] = first;
     let control = point_moved(two, fade);
     let values = values_made(p.step) + values_made(q.step);
     PointRun {
@@ -67,50 +61,7 @@ fn one_output(line: &mut [i64], c: Control, book: &[i32], store: &[i32], layout:
     }
 }
 
-// Writes the points of up to `count` outputs that need no fade, none where the first needs one.
-fn steady_run(
-    line: &mut [i64],
-    c: Control,
-    count: usize,
-    book: &[i32],
-    store: &[i32],
-    layout: Layout,
-    table: &[i64],
-) -> PointRun
-    requires { ⌜ LayoutOf (now book) (now store) (c .top) layout × Valid (layout .fade) c × (c .fade .step ≡ 0) × (length (now line) ≡ 209) × (count ≤ 64) ⌝ }
-    requires { ⌜ ((length (now table) ≡ 0 → ⊥) → TableOf (now book) (now table)) ⌝ }
-    ensures { λ r. ⌜ (r .made ≤ count) × (r .control ≡ controlAfter (layout .fade) c (r .made)) × (r .values ≡ runValues (layout .fade) c (r .made)) ⌝ }
-    ensures points { λ r. ⌜ now (line .exit) ≡ overwrite (now (line .entry)) (128 - 2 * r .made) (runPoints (point (now (book .entry)) (now (store .entry))) (layout .fade) c (r .made)) ⌝ }
-{
-    let mut positions = [0u64; 128];
-    let r = steady_positions(c, layout.fade, count, &mut positions);
-    let control = r.control;
-    let made = r.made;
-    let values = 2 * made;
-    if made == 0 {
-        return PointRun {
-            control,
-            made,
-            values,
-        };
-    }
-    steady_points(
-        line,
-        &positions[0..values],
-        book,
-        store,
-        layout,
-        c.fade.from,
-        table,
-    );
-    PointRun {
-        control,
-        made,
-        values,
-    }
-}
-
-// Writes the points of the next outputs, up to `count` of them: a run without a fade, or one output.
+// Writes the points of the next outputs, up to `count` of them: a run without a fade, a run inside one, or one output.
 pub fn next_points(
     line: &mut [i64],
     c: Control,
@@ -118,19 +69,33 @@ pub fn next_points(
     book: &[i32],
     store: &[i32],
     layout: Layout,
-    table: &[i64],
+    table: &[i16],
 ) -> PointRun
-    requires { ⌜ LayoutOf (now book) (now store) (c .top) layout × Valid (layout .fade) c × (length (now line) ≡ 209) × (1 ≤ count) × (count ≤ 64) ⌝ }
-    requires { ⌜ ((length (now table) ≡ 0 → ⊥) → TableOf (now book) (now table)) ⌝ }
+    requires { ⌜ LayoutOf (now book) (now store) (c .top) layout × Valid (layout .fade) c × (length (now line) ≡ 209) × (1 ≤ count) × (count ≤ 64) × RowsOf (now book) (now table) ⌝ }
     ensures { λ r. ⌜ (1 ≤ r .made) × (r .made ≤ count) × (r .control ≡ controlAfter (layout .fade) c (r .made)) × (r .values ≡ runValues (layout .fade) c (r .made)) ⌝ }
     ensures points { λ r. ⌜ now (line .exit) ≡ overwrite (now (line .entry)) (128 - 2 * r .made) (runPoints (point (now (book .entry)) (now (store .entry))) (layout .fade) c (r .made)) ⌝ }
 {
-    if c.fade.step != 0 {
-        return one_output(line, c, book, store, layout);
+    let mut positions = [0u64; 128];
+    let r = run_positions(c, layout.fade, count, &mut positions);
+    let made = r.made;
+    if made == 0 {
+        return one_output(line, c, book, store, layout, table);
     }
-    let r = steady_run(line, c, count, book, store, layout, table);
-    if r.made != 0 {
-        return r;
+    let plan = r.plan;
+    let points = 2 * made;
+    planned_points(
+        line,
+        &positions[0..points],
+        plan,
+        book,
+        store,
+        layout,
+        table,
+    );
+    let control = r.control;
+    PointRun {
+        control,
+        made,
+        values: points * values_made(plan.step),
     }
-    one_output(line, c, book, store, layout)
 }

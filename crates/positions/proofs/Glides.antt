@@ -1,5 +1,5 @@
 -- The laws of a quotient with its rest, and of a glide's place: the sum of two quotients, and the place after one output more. Assumes nothing.
-use mathlib.Core.Path.{_≡_, refl, sym, ap, ap₂, _∙_}
+use mathlib.Core.Path.{_≡_, refl, sym, ap, _∙_}
 use Prim.Native.Nat.{ℕ, suc, _+_, _*_, _^_, _≤_, _<_}
 use native.Mathlib.Nat.{le-trans, mul-le-mul-left, add-zero, add-suc}
 use native.Mathlib.Decide.{ℕ-discrete}
@@ -18,7 +18,7 @@ use Rattle.control.specs.declared.Control.{Control}
 use Rattle.control.specs.declared.Fade.{Fade}
 use Rattle.positions.specs.declared.glide.Quotient.{Quotient}
 use Rattle.positions.specs.declared.glide.Rates.{Rates}
-use Rattle.control.specs.Moves.{noFade, glideRate, glideAfter, moveGlide}
+use Rattle.control.specs.Moves.{glideRate, glideAfter, moveGlide}
 use Rattle.control.specs.Valid.{GlideValid, Valid}
 use Rattle.positions.specs.Inner.{GlideFits, ControlFits, RatesOf, quotient, glideSum, leftOf, rateAt, glideAt, controlAt}
 use Rattle.control.proofs.Kept.{either, glide-is, glide-high}
@@ -207,25 +207,29 @@ glide-none g f = go (ℕ-discrete (g .count) 0)
     go (yes z) = rw (eq-eqb (g .count) 0 z)
     go (no n) = rw (ne-eqb (g .count) 0 n, add-zero (g .done), ne-eqb (g .done) (g .count) (λ e. absurd (omega (arith, f n .done-high))))
 
-pub control-none : {F : ℕ} {c : Control} → Valid F c → c .fade .step ≡ 0 → controlAt c 0 (c .position) ≡ c
+pub control-none : {c : Control} → ControlFits c → controlAt c (c .fade) 0 (c .position) ≡ c
 unfolding controlAt
-control-none {c = c} s rests =
-    let fade : noFade (c .fade .from) ≡ c .fade = ap₂ (λ (t n : ℕ). record { from = c .fade .from; to = t; step = n }) (s .resting rests) (sym rests) in
-    let glide = glide-none (c .glide) (control-fits s .glide-fits) in
-    ap₂ (λ (f : Fade) (g : Glide). record { top = c .top; fade = f; rate = c .rate; glide = g; position = c .position }) fade glide
+control-none {c} f = ap (λ (g : Glide). record { top = c .top; fade = c .fade; rate = c .rate; glide = g; position = c .position }) (glide-none (c .glide) (f .glide-fits))
 
 -- after some outputs
-pub control-some : (c : Control) (i P : ℕ) → controlAt c (suc i) P ≡ record { top = c .top; fade = noFade (c .fade .from); rate = rateAt c (suc i); glide = glideAt (c .glide) (suc i); position = P }
+pub control-some : (c : Control) (f : Fade) (i P : ℕ) → controlAt c f (suc i) P ≡ record { top = c .top; fade = f; rate = rateAt c (suc i); glide = glideAt (c .glide) (suc i); position = P }
 unfolding controlAt
-control-some c i P = simp (ne-eqb (suc i) 0 (λ e. absurd (omega arith)))
+control-some c f i P = simp (ne-eqb (suc i) 0 (λ e. absurd (omega arith)))
 
 -- one output more, before its points
-pub control-next : (c : Control) (i P : ℕ) → leftOf (c .glide) (suc i) → controlAt c (suc i) P ≡ moveGlide (controlAt c i P)
+pub control-next : (c : Control) (f : Fade) (i P : ℕ) → leftOf (c .glide) (suc i) → controlAt c f (suc i) P ≡ moveGlide (controlAt c f i P)
 unfolding controlAt glideAt rateAt moveGlide glideAfter glideRate
-control-next c i P left = control-some c i P ∙ go (ℕ-discrete (c .glide .count) 0)
+control-next c f i P left = control-some c f i P ∙ go (ℕ-discrete (c .glide .count) 0)
   where
-    go : Dec (c .glide .count ≡ 0) → record { top = c .top; fade = noFade (c .fade .from); rate = rateAt c (suc i); glide = glideAt (c .glide) (suc i); position = P } ≡ moveGlide (controlAt c i P)
+    go : Dec (c .glide .count ≡ 0) → record { top = c .top; fade = f; rate = rateAt c (suc i); glide = glideAt (c .glide) (suc i); position = P } ≡ moveGlide (controlAt c f i P)
     go (yes z) = simp (eq-eqb (c .glide .count) 0 z, either (λ (R : ℕ). R) (eqb i 0) (c .rate) (c .rate) refl)
     go (no n) =
         let l = left n in
         simp (ne-eqb (c .glide .count) 0 n, add-suc, ne-eqb (c .glide .done + i) (c .glide .count) (λ e. absurd (omega arith)))
+
+-- before the first output's points
+pub left-one : {c : Control} → ControlFits c → leftOf (c .glide) 1
+left-one f n = omega (arith, f .glide-fits n .done-high)
+
+pub control-first : {c : Control} → ControlFits c → moveGlide c ≡ record { top = c .top; fade = c .fade; rate = rateAt c 1; glide = glideAt (c .glide) 1; position = c .position }
+control-first {c} f = ap moveGlide (sym (control-none f)) ∙ sym (control-next c (c .fade) 0 (c .position) (left-one f)) ∙ control-some c (c .fade) 0 (c .position)

@@ -1,4 +1,4 @@
 pub mod Runs
 pub mod Glides
-pub mod Steady
+pub mod Plans
 pub mod Along

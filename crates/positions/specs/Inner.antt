@@ -7,10 +7,12 @@ use lib.IntN.{ℤ, pos, natAbs, _+ℤ_, _-ℤ_, _*ℤ_}
 use lib.Signed.{_≤ℤ_, _<ℤ_}
 use Rattle.arith.specs.Floor.{floorDiv}
 use Rattle.control.specs.declared.Control.{Control}
+use Rattle.control.specs.declared.Fade.{Fade}
 use Rattle.control.specs.declared.Glide.{Glide}
+use Rattle.control.specs.declared.Plan.{Plan}
 use Rattle.positions.specs.declared.glide.Quotient.{Quotient}
 use Rattle.positions.specs.declared.glide.Rates.{Rates}
-use Rattle.control.specs.Moves.{noFade, glideRate, glideAfter}
+use Rattle.control.specs.Moves.{glideRate, glideAfter}
 
 -- a glide under way whose rates are below 2^32
 pub record GlideFits (g : Glide) : Type 0 where
@@ -50,8 +52,12 @@ pub record RatesOf (c : Control) (r : Rates) : Type 0 where
   pub low : (i : ℕ) → i ≤ 64 → leftOf (c .glide) i → pos (2 ^ 23 * rateAt c i) ≤ℤ (r .start +ℤ r .slope *ℤ pos i)
   pub high : (i : ℕ) → i ≤ 64 → leftOf (c .glide) i → (r .start +ℤ r .slope *ℤ pos i) <ℤ pos (2 ^ 23 * rateAt c i + 2 ^ 23)
 
--- a control after i outputs without a fade: after none R is as it was, on a glide too
-unfoldable pub controlAt : Control → ℕ → ℕ → Control
-controlAt c i P =
+-- a control after i outputs that left the fade f: after none R is as it was, on a glide too
+unfoldable pub controlAt : Control → Fade → ℕ → ℕ → Control
+controlAt c f i P =
     let rate = cond (eqb i 0) (c .rate) (rateAt c i) in
-    record { top = c .top; fade = noFade (c .fade .from); rate = rate; glide = glideAt (c .glide) i; position = P }
+    record { top = c .top; fade = f; rate = rate; glide = glideAt (c .glide) i; position = P }
+
+-- the fade, if p belongs to one, has the points of n outputs from p on
+abbrev pub leftOfFade : ℕ → Plan → ℕ → Type 0
+leftOfFade F p n = (p .step ≡ 0 → ⊥) → p .step + 2 * n ≤ F + 1

@@ -1,5 +1,7 @@
 -- A run of outputs: the control along it, and the plans of its points.
-use Prim.Native.Nat.{ℕ, zero, suc}
+use mathlib.Core.Bool.{cond}
+use Prim.Native.Nat.{ℕ, zero, suc, _+_}
+use lib.Dec.{eqb}
 use Rattle.control.specs.declared.Control.{Control}
 use Rattle.control.specs.declared.Plan.{Plan}
 use Rattle.control.specs.Moves.{moveGlide, pointPlan, movePoint, moveOutput}
@@ -16,6 +18,6 @@ firstPlan F c n = pointPlan (moveGlide (controlAfter F c n))
 abbrev pub secondPlan : ℕ → Control → ℕ → Plan
 secondPlan F c n = pointPlan (movePoint F (moveGlide (controlAfter F c n)))
 
--- the plan of a point without a fade
-abbrev pub steadyPlan : ℕ → ℕ → Plan
-steadyPlan level P = record { old = level; new = level; step = 0; position = P }
+-- the plan of point k of a run, of which p is the first point's: without a fade i stays 0, and in one it grows by 1 with each point
+abbrev pub runPlan : Plan → ℕ → ℕ → Plan
+runPlan p k P = record { old = p .old; new = p .new; step = cond (eqb (p .step) 0) 0 (p .step + k); position = P }

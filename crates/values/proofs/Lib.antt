@@ -1,6 +1,4 @@
 pub mod Values
-pub mod Steps
-pub mod Windows
 pub mod Mix
-pub mod Split
+pub mod Phases
 pub mod Layouts

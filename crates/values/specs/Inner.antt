@@ -1,11 +1,13 @@
 -- Definitions that only inner functions' contracts cite: no rule of document 01, but a step of the code that computes one.
 use mathlib.Core.List.{List}
-use Prim.Native.Nat.{ℕ, suc, _+_, _-_}
+use Prim.Native.Nat.{ℕ, _+_, _/_}
 use lib.IntN.{ℤ, pos, _-ℤ_, _*ℤ_}
-use Rattle.arith.specs.Lists.{at}
 use Rattle.arith.specs.Sum.{sum}
-use Rattle.values.specs.Values.{limitedWord}
+use Rattle.book.specs.Book.{sizesOf, impulse}
+use Rattle.values.specs.Values.{unit}
 
--- n words, the first of them word `first` − `half` of level l, times a row of n coefficients read backwards
-unfoldable pub windowSum : List ℤ → ℕ → ℕ → ℕ → List ℤ → ℕ → ℤ
-windowSum words l first half row n = sum n (λ i. limitedWord words l (pos (first + i) -ℤ pos half) *ℤ at row (n - suc i))
+-- the words that a value at P reads, the last first, times the impulses of phase q
+unfoldable pub phaseTotal : List ℤ → (ℤ → ℤ) → ℕ → ℕ → ℕ → ℤ
+phaseTotal b word l P q =
+    let N = sizesOf b .taps in
+    sum N (λ k. word (pos (P / unit l + N / 2) -ℤ pos k) *ℤ impulse b q k)

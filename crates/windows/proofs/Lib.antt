@@ -1,5 +1,6 @@
+pub mod Dots
+pub mod ImpulseRows
+pub mod RunSums
 pub mod Staged
-pub mod RowSums
-pub mod RaisedSums
-pub mod Tables
-pub mod Totals
+pub mod WordParts
+pub mod LevelRuns

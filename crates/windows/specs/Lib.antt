@@ -1,1 +1,5 @@
-pub mod Inner
+pub mod Rows
+pub mod Parts
+pub mod Places
+pub mod Sums
+pub mod Runs

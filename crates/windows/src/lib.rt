@@ -1,6 +1,7 @@
-// Level values along a run of positions: the words that the run reads are staged once, and its values are made from there.
-
-mod raised; // values four at a time, from raised words
+mod parts; // words in 16-bit parts
 mod staging; // the words that a run reads
-pub mod table; // a book's phases, raised
+pub mod rows; // a book's impulses in rows of 16-bit words
+mod places; // where each value's coefficients and words begin
+mod sums; // sums of products, and the values that they make
+mod runs; // the values of a run, from the words of its window
 pub mod window; // values along a run of positions

@@ -1,184 +1,132 @@
-// Level values at a run of positions. The words that the run reads are staged once, into a window.
+// Level values at a run of positions, however far apart they lie.
 
 ghost use mathlib.Core.Path.{_≡_};
-ghost use Prim.Native.Nat.{ℕ, suc, _+_, _-_, _*_, _/_, _%_, _^_, _≤_, _<_};
-ghost use lib.IntN.{natAbs};
-ghost use lib.ListN.{length, getD, drop};
-ghost use Rattle.arith.specs.Lists.{at, tabulate, overwrite};
+ghost use Prim.Native.Nat.{ℕ, suc, _+_, _-_, _/_, _^_, _≤_, _<_};
+ghost use lib.ListN.{length, getD};
+ghost use Rattle.arith.specs.Lists.{tabulate, overwrite};
 ghost use Rattle.book.specs.Book.{sizesOf};
 ghost use Rattle.book.specs.Check.{bookNumber};
 ghost use Rattle.values.specs.Values.{unit, levelValue, value};
 ghost use Rattle.values.specs.Layout.{LayoutOf};
-ghost use Rattle.windows.specs.Inner.{rowSum, windowValue, TableOf};
-use crate::raised::four_points;
+ghost use Rattle.windows.specs.Rows.{RowsOf};
+use crate::places::places;
+use crate::rows::row_width;
+use crate::runs::part_run;
+use crate::runs::sample_run;
 use crate::staging::staged;
-use crate::staging::staged_raised;
 use values::layout::Layout;
 use values::layout::level_words;
-use values::value::Sums;
-use values::value::mixed;
 
-// Both sums of the first `taps` words, two words a turn. The impulses of the phase begin `rows`, its differences lie `gap` words on.
-fn row_sums(rows: &[i32], gap: usize, words: &[i64], taps: usize) -> Sums
-    requires { ⌜ (taps % 2 ≡ 0) × (taps ≤ 24) × (gap + taps ≤ length (now rows)) × (taps ≤ length (now rows)) × (taps ≤ length (now words)) ⌝ }
-    requires { ⌜ ((k : ℕ) → natAbs (at (now rows) k) ≤ 65536) × ((k : ℕ) → k < taps → natAbs (at (now words) k) ≤ 2 ^ 27) ⌝ }
-    ensures { λ r. ⌜ (r .impulses ≡ rowSum (now (words .entry)) (now (rows .entry)) taps) × (r .differences ≡ rowSum (now (words .entry)) (drop gap (now (rows .entry))) taps) ⌝ }
-{
-    let mut impulses: i64 = 0;
-    let mut differences: i64 = 0;
-    let mut i = 0;
-    while i < taps {
-        let w = words[i];
-        let v = words[i + 1];
-        let k = taps - 1 - i;
-        let l = taps - 2 - i;
-        impulses = impulses + w * rows[k] as i64 + v * rows[l] as i64;
-        differences = differences + w * rows[gap + k] as i64 + v * rows[gap + l] as i64;
-        i += 2;
-    }
-    Sums {
-        impulses,
-        differences,
-    }
-}
-
-// The value of a window at `place`, counted in 2^-32 words.
-fn tap_value(book: &[i32], phases: usize, taps: usize, window: &[i64], place: u64) -> i64
-    requires { ⌜ (bookNumber (now book) ≡ 0) × (phases ≡ sizesOf (now book) .phases) × (taps ≡ sizesOf (now book) .taps) ⌝ }
-    requires { ⌜ (place / 2 ^ 32 + taps ≤ length (now window)) × ((k : ℕ) → k < place / 2 ^ 32 + taps → natAbs (at (now window) k) ≤ 2 ^ 27) ⌝ }
-    ensures { λ r. ⌜ r ≡ windowValue (now (book .entry)) (now (window .entry)) place ⌝ }
-{
-    let scaled = place % 4294967296 * phases as u64;
-    let q = (scaled / 4294967296) as usize;
-    let row = 5 + q * taps;
-    let first = (place / 4294967296) as usize;
-    let rows = &book[row..];
-    let words = &window[first..];
-    let s = row_sums(rows, phases * taps, words, taps);
-    mixed(s.impulses, s.differences, scaled % 4294967296)
-}
-
-// The same: the most common number of taps is a constant, so that its loop is unrolled.
-fn window_value(book: &[i32], phases: usize, taps: usize, window: &[i64], place: u64) -> i64
-    requires { ⌜ (bookNumber (now book) ≡ 0) × (phases ≡ sizesOf (now book) .phases) × (taps ≡ sizesOf (now book) .taps) ⌝ }
-    requires { ⌜ (place / 2 ^ 32 + taps ≤ length (now window)) × ((k : ℕ) → k < place / 2 ^ 32 + taps → natAbs (at (now window) k) ≤ 2 ^ 27) ⌝ }
-    ensures { λ r. ⌜ r ≡ windowValue (now (book .entry)) (now (window .entry)) place ⌝ }
-{
-    if taps == 12 {
-        return tap_value(book, phases, 12, window, place);
-    }
-    tap_value(book, phases, taps, window, place)
-}
-
-// A window's values at a run's positions, written to a line of points, newest first. The window begins at `start`, and `up` shifts a
-// distance from there to 2^-32 words.
-fn window_points(
+// The values of a level, whose words are given, at positions that a window has room for, written to a line of points, newest first, before place `end`. Words
+// of level 0 are tried as samples first.
+fn level_values(
     line: &mut [i64],
-    positions: &[u64],
-    count: usize,
-    book: &[i32],
-    phases: usize,
-    taps: usize,
-    window: &[i64],
-    start: u64,
-    up: u32,
-)
-    requires { ⌜ (bookNumber (now book) ≡ 0) × (phases ≡ sizesOf (now book) .phases) × (taps ≡ sizesOf (now book) .taps) ⌝ }
-    requires { ⌜ (length (now line) ≡ 209) × (count ≤ 128) × (count - 1 + taps ≤ length (now window)) × (up ≤ 4) × (count ≤ length (now positions)) ⌝ }
-    requires { ⌜ ((k : ℕ) → k < count → (start ≤ getD (now positions) k 0) × ((getD (now positions) k 0 - start) * 2 ^ up < suc k * 2 ^ 32)) ⌝ }
-    requires { ⌜ ((k : ℕ) → k < count - 1 + taps → natAbs (at (now window) k) ≤ 2 ^ 27) ⌝ }
-    ensures { λ _. ⌜ now (line .exit) ≡ overwrite (now (line .entry)) (128 - count) (tabulate count (λ j. windowValue (now (book .entry)) (now (window .entry)) ((getD (now (positions .entry)) (count - suc j) 0 - start) * 2 ^ up))) ⌝ }
-{
-    let mut k = 0;
-    while k < count {
-        let x = window_value(book, phases, taps, window, (positions[k] - start) << up);
-        line[127 - k] = x;
-        k += 1;
-    }
-}
-
-// The values of a level, whose words are given, at a run's positions, written to a line of points, newest first: four at a time where the book
-// has a table.
-fn level_points(
-    line: &mut [i64],
+    end: usize,
     positions: &[u64],
     book: &[i32],
     layout: Layout,
     words: &[i32],
     level: u32,
-    table: &[i64],
+    table: &[i16],
 )
-    requires { ⌜ (bookNumber (now book) ≡ 0) × (layout .phases ≡ sizesOf (now book) .phases) × (layout .taps ≡ sizesOf (now book) .taps) ⌝ }
-    requires { ⌜ (level ≤ 4) × (length (now words) ≤ 1048576) × (1 ≤ length (now positions)) × (length (now positions) ≤ 128) × (length (now positions) % 2 ≡ 0) × (length (now line) ≡ 209) ⌝ }
-    requires { ⌜ ((k : ℕ) → k < length (now positions) → (getD (now positions) 0 0 ≤ getD (now positions) k 0) × (getD (now positions) k 0 ≤ getD (now positions) 0 0 + k * unit level) × (getD (now positions) k 0 ≤ 2 ^ 60)) ⌝ }
-    requires { ⌜ ((length (now table) ≡ 0 → ⊥) → TableOf (now book) (now table)) ⌝ }
-    ensures { λ _. ⌜ now (line .exit) ≡ overwrite (now (line .entry)) (128 - length (now (positions .entry))) (tabulate (length (now (positions .entry))) (λ j. levelValue (now (book .entry)) (now (words .entry)) level (getD (now (positions .entry)) (length (now (positions .entry)) - suc j) 0))) ⌝ }
+    requires { ⌜ (bookNumber (now book) ≡ 0) × (layout .phases ≡ sizesOf (now book) .phases) × (layout .taps ≡ sizesOf (now book) .taps) × RowsOf (now book) (now table) ⌝ }
+    requires { ⌜ (level ≤ 4) × (1 ≤ length (now positions)) × (length (now positions) ≤ 128) × (length (now positions) ≤ end) × (end ≤ length (now line)) ⌝ }
+    requires { ⌜ ((k : ℕ) → k < length (now positions) → (getD (now positions) 0 0 ≤ getD (now positions) k 0) × (getD (now positions) k 0 ≤ getD (now positions) (length (now positions) - 1) 0)) × (getD (now positions) (length (now positions) - 1) 0 ≤ 2 ^ 60) × (getD (now positions) (length (now positions) - 1) 0 / unit level ≤ getD (now positions) 0 0 / unit level + 127) ⌝ }
+    ensures { λ _. ⌜ now (line .exit) ≡ overwrite (now (line .entry)) (end - length (now (positions .entry))) (tabulate (length (now (positions .entry))) (λ j. levelValue (now (book .entry)) (now (words .entry)) level (getD (now (positions .entry)) (length (now (positions .entry)) - suc j) 0))) ⌝ }
 {
     let count = positions.len();
-    let phases = layout.phases;
     let taps = layout.taps;
     let shift = 28 + level;
-    let up = 4 - level;
     let base = positions[0] >> shift;
-    let start = base << shift;
-    let first = base as usize + 1;
-    let reach = count - 1 + taps;
-    if table.len() == 0 {
-        let mut window = [0i64; 160];
-        staged(&mut window, words, level, first, taps / 2, reach);
-        window_points(
-            line,
-            positions,
-            count,
-            book,
-            phases,
-            taps,
-            &window,
-            start,
-            up,
-        );
+    let last = positions[count - 1] >> shift;
+    let spread = (last - base) as usize;
+    let mut rows = [0usize; 128];
+    let mut firsts = [0usize; 128];
+    let mut offsets = [0u64; 128];
+    places(
+        &mut rows,
+        &mut firsts,
+        &mut offsets,
+        positions,
+        base << shift,
+        4 - level,
+        layout.phases,
+        row_width(taps),
+        spread,
+    );
+    let mut window = [0i32; 192];
+    let reach = spread + taps;
+    staged(&mut window, words, level, last as usize + taps / 2, reach);
+    if sample_run(
+        level,
+        line,
+        end,
+        count,
+        &window,
+        reach,
+        table,
+        taps,
+        &rows,
+        &firsts,
+        &offsets,
+    ) {
         return;
     }
-    let mut raised = [0i64; 160];
-    let mut totals = [0i64; 160];
-    staged_raised(
-        &mut raised,
-        &mut totals,
-        words,
-        level,
-        first,
-        taps / 2,
-        reach,
-    );
-    four_points(
+    part_run(
         line,
-        positions,
+        end,
         count,
+        &window,
+        reach,
         table,
-        phases,
         taps,
-        &raised,
-        &totals,
-        start,
-        up,
+        &rows,
+        &firsts,
+        &offsets,
     );
 }
 
-// The same for a level of a store.
-pub fn steady_points(
+// How many of some positions a window has room for, one at least: half of them while they lie too far apart.
+fn room(positions: &[u64], shift: u32) -> usize
+    requires { ⌜ (1 ≤ length (now positions)) × (length (now positions) ≤ 128) × (shift < 64) × (getD (now positions) 0 0 ≤ 2 ^ 60) ⌝ }
+    ensures { λ r. ⌜ (1 ≤ r) × (r ≤ length (now (positions .entry))) × (getD (now (positions .entry)) (r - 1) 0 / 2 ^ shift ≤ getD (now (positions .entry)) 0 0 / 2 ^ shift + 127) ⌝ }
+{
+    let base = positions[0] >> shift;
+    let mut count = positions.len();
+    while base + 127 < positions[count - 1] >> shift {
+        count = (count + 1) / 2;
+    }
+    count
+}
+
+// The values of a level of a store at positions that do not fall, written to a line of points, newest first, before place 128.
+pub fn values_along(
     line: &mut [i64],
     positions: &[u64],
     book: &[i32],
     store: &[i32],
     layout: Layout,
     level: u32,
-    table: &[i64],
+    table: &[i16],
 )
-    requires { ⌜ LayoutOf (now book) (now store) level layout × (level ≤ 4) × (length (now line) ≡ 209) × (1 ≤ length (now positions)) × (length (now positions) ≤ 128) × (length (now positions) % 2 ≡ 0) ⌝ }
-    requires { ⌜ ((k : ℕ) → k < length (now positions) → (getD (now positions) 0 0 ≤ getD (now positions) k 0) × (getD (now positions) k 0 ≤ getD (now positions) 0 0 + k * unit level) × (getD (now positions) k 0 ≤ 2 ^ 60)) ⌝ }
-    requires { ⌜ ((length (now table) ≡ 0 → ⊥) → TableOf (now book) (now table)) ⌝ }
+    requires { ⌜ LayoutOf (now book) (now store) level layout × RowsOf (now book) (now table) × (level ≤ 4) × (128 ≤ length (now line)) × (length (now positions) ≤ 128) ⌝ }
+    requires { ⌜ ((i k : ℕ) → i ≤ k → k < length (now positions) → (getD (now positions) i 0 ≤ getD (now positions) k 0) × (getD (now positions) k 0 ≤ 2 ^ 60)) ⌝ }
     ensures { λ _. ⌜ now (line .exit) ≡ overwrite (now (line .entry)) (128 - length (now (positions .entry))) (tabulate (length (now (positions .entry))) (λ j. value (now (book .entry)) (now (store .entry)) level (getD (now (positions .entry)) (length (now (positions .entry)) - suc j) 0))) ⌝ }
 {
     let words = level_words(store, layout, level);
-    level_points(line, positions, book, layout, words, level, table);
+    let mut i = 0;
+    while i < positions.len() {
+        let count = room(&positions[i..], 28 + level);
+        level_values(
+            line,
+            128 - i,
+            &positions[i..i + count],
+            book,
+            layout,
+            words,
+            level,
+            table,
+        );
+        i += count;
+    }
 }

@@ -75,7 +75,7 @@ module _ (c : tie.After-floor-shift) where
   part-is : part ≡ floorDiv (low (c .before)) (u (c .before))
   part-is = simp (reads, c .before .fits .low, c .before .fits .unit) at (c .floor-shift .ensures)
 
-  whole-small : natAbs (high (c .before) +ℤ part) ≤ 2 ^ 62
+  whole-small : natAbs (high (c .before) +ℤ part) + 2 ^ 33 ≤ 2 ^ 63
   whole-small =
       let s = c .before in
       let small : natAbs part ≤ natAbs (low s) / u s + 1 = rw part-is (part-small (low s) (u-some s)) in
@@ -141,7 +141,7 @@ module _ (c : tie.After-excess) where
   added-fits : SFits w64 (low start +ℤ nearly)
   added-fits = simp linear (omega (signed, simp linear at (product-small start), simp linear at (start .pre .0 .1)))
 
-  small : natAbs raised ≤ 2 ^ 62
+  small : natAbs raised + 2 ^ 33 ≤ 2 ^ 63
   small = simp linear (omega (signed, simp linear at (product-small start), simp linear at (start .pre .0 .1), simp linear at odd-range))
 
   raised-fits : SFits w64 raised
@@ -186,7 +186,7 @@ module _ (c : tie.After-floor-shift3) where
       simp (reads, s .fits .low, s .fits .half, s .fits .unit, product-fits s, nearly-fits e, added-fits e, odd-fits e, raised-fits e) at (c .floor-shift3 .ensures) in
       quotient ∙ ap (λ x. floorDiv x (u s)) (raised-is e)
 
-  sum-small : natAbs (carried +ℤ high (start e)) ≤ 2 ^ 62 + 2 ^ 32
+  sum-small : natAbs (carried +ℤ high (start e)) + 2 ^ 33 ≤ 2 ^ 63
   sum-small =
       let s = start e in
       let part : natAbs carried ≤ natAbs (low s) / u s + 1 + h s = subst (λ x. natAbs x ≤ natAbs (low s) / u s + 1 + h s) (sym carried-is) (raised-small (low s) (u-some s) (h s) (n s)) in

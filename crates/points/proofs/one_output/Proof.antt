@@ -1,14 +1,13 @@
 -- `points::one_output` meets its contract: the steps of one output, put together. Assumes nothing.
 use borrow.Author.Needs.{needs}
-use mathlib.Core.Path.{_≡_, refl, ap, ap₂, _∙_}
+use mathlib.Core.Path.{_≡_, refl, ap, _∙_}
 use mathlib.Core.List.{List, [], _∷_}
 use Prim.Native.Nat.{ℕ, _+_, _^_, _≤_, _<_}
 use native.Mathlib.Omega.{arith}
 use lib.IntN.{ℤ, pos}
 use lib.ListN.{length, set}
-use mir.Syntax.{w32}
+use mir.Syntax.{w64}
 use mir.Val.{SFits}
-use mir.Facts.{sfits-widen}
 use Rattle.arith.specs.Lists.{overwrite}
 use Rattle.arith.proofs.Bits.{reads}
 use Rattle.arith.proofs.Lists.{paste-none, paste-more, paste-all}
@@ -18,9 +17,6 @@ use Rattle.control.specs.declared.Control.{Control}
 use Rattle.control.specs.declared.Plan.{Plan}
 use Rattle.control.specs.Moves.{moveGlide, pointPlan, movePoint, moveOutput}
 use Rattle.points.specs.Points.{point}
-use Rattle.points.specs.Inner.{levelsPoint}
-use Rattle.store.specs.Store.{storeLevel}
-use Rattle.values.specs.Values.{value}
 use Rattle.control.specs.Valid.{Valid}
 use Rattle.positions.specs.Runs.{controlAfter, firstPlan, secondPlan}
 use Rattle.points.specs.Runs.{runPoints}
@@ -113,26 +109,17 @@ point-plan-requires c κs = plan-small (start c) (one-ready c)
 first-read : (c : tie.After-point-plan) → Read (start (c .before)) (c .point-plan .result)
 first-read c = let r = one-ready (c .before) in plan-read (r .0) (r .1) (c .point-plan .result) (c .point-plan .ensures)
 
-level-words-requires : tie.Need-level-words-requires
-level-words-requires c κs = let r = first-read c in (r .1 .0, r .0 .0 .levels)
-
-level-words-requires-2 : tie.Need-level-words-requires-2
-level-words-requires-2 c κs = let r = first-read (c .before) in (r .1 .1, r .0 .1 .levels)
-
-point-of-requires : tie.Need-point-of-requires
-point-of-requires c κs =
-    let w = c .before in
-    let r = first-read (w .before) in
-    ((r .0 .0 .sizes, w .level-words .ensures .1, c .level-words2 .ensures .1), r .1)
+one-point-requires : tie.Need-one-point-requires
+one-point-requires c κs = let r = first-read c in (r .0 .0, r .0 .1, start (c .before) .pre .3, r .1 .0, r .1 .1, r .1 .2, r .1 .3)
 
 point-moved-requires : tie.Need-point-moved-requires
-point-moved-requires c κs = let o = c .before .before .before .before in plan-small (start o) (one-ready o)
+point-moved-requires c κs = let o = c .before .before in plan-small (start o) (one-ready o)
 
 -- ---- the second point
 
 module _ (c : tie.After-point-moved) where
   abbrev one : tie.After-glide-moved
-  one = c .before .before .before .before .before
+  one = c .before .before .before
 
   two-is : c .point-moved .result ≡ movePoint (F (start one)) (one .glide-moved .result)
   two-is = c .point-moved .ensures
@@ -146,46 +133,25 @@ point-plan-requires-2 c κs = plan-small (start (one c)) (two-ready c)
 second-read : (c : tie.After-point-plan2) → Read (start (one (c .before))) (c .point-plan2 .result)
 second-read c = let r = two-ready (c .before) in plan-read (r .0) (r .1) (c .point-plan2 .result) (c .point-plan2 .ensures)
 
-level-words-requires-3 : tie.Need-level-words-requires-3
-level-words-requires-3 c κs = let r = second-read c in (r .1 .0, r .0 .0 .levels)
-
-level-words-requires-4 : tie.Need-level-words-requires-4
-level-words-requires-4 c κs = let r = second-read (c .before) in (r .1 .1, r .0 .1 .levels)
-
-point-of-requires-2 : tie.Need-point-of-requires-2
-point-of-requires-2 c κs =
-    let w = c .before in
-    let r = second-read (w .before) in
-    ((r .0 .0 .sizes, w .level-words3 .ensures .1, c .level-words4 .ensures .1), r .1)
-
--- the points of the plans, from the words that the store has for their levels
-point-is : (b store : List ℤ) (p : Plan) {old new : List ℤ} {x : ℤ} → old ≡ storeLevel store (p .old) → new ≡ storeLevel store (p .new)
-    → x ≡ levelsPoint b old new p → x ≡ point b store p
-unfolding point levelsPoint value
-point-is b store p {old} {new} e f h = h ∙ ap₂ (λ o n. levelsPoint b o n p) e f
+one-point-requires-2 : tie.Need-one-point-requires-2
+one-point-requires-2 c κs = let r = second-read c in (r .0 .0, r .0 .1, start (one (c .before)) .pre .3, r .1 .0, r .1 .1, r .1 .2, r .1 .3)
 
 -- ---- both together
 
-first-fits : (c : tie.After-point-of) → SFits w32 (c .point-of .result)
-first-fits c = record { sfits = c .point-of .ok }
+first-fits : (c : tie.After-one-point) → SFits w64 (c .one-point .result)
+first-fits c = record { sfits = c .one-point .ok }
 
-second-fits : (c : tie.After-point-of2) → SFits w32 (c .point-of2 .result)
-second-fits c = record { sfits = c .point-of2 .ok }
+second-fits : (c : tie.After-one-point2) → SFits w64 (c .one-point2 .result)
+second-fits c = record { sfits = c .one-point2 .ok }
 
-cast-line : tie.Need-cast-line
-cast-line c = simp (reads, second-fits c) (sfits-widen tt (second-fits c))
+slice-set-from-second : tie.Need-slice-set-from-second
+slice-set-from-second c = search needs
 
-slice-set-from-line : tie.Need-slice-set-from-line
-slice-set-from-line c = let line = start (one (c .before .before .before .before)) .pre .2 in search needs
-
-cast-line-2 : tie.Need-cast-line-2
-cast-line-2 c = let f = first-fits (c .before .before .before .before .before) in simp (reads, f) (sfits-widen tt f)
-
-slice-set-from-line-2 : tie.Need-slice-set-from-line-2
-slice-set-from-line-2 c = let line = start (one (c .before .before .before .before)) .pre .2 in search needs
+slice-set-from-first : tie.Need-slice-set-from-first
+slice-set-from-first c = search needs
 
 point-moved-requires-2 : tie.Need-point-moved-requires-2
-point-moved-requires-2 c κs = let t = c .before .before .before .before in plan-small (start (one t)) (two-ready t)
+point-moved-requires-2 c κs = let t = c .before .before in plan-small (start (one t)) (two-ready t)
 
 values-made-requires : tie.Need-values-made-requires
 values-made-requires c κs = search needs
@@ -206,19 +172,16 @@ returns : tie.Need-returns
 returns c =
     let m = c .before .before in
     let p₂ = m .before in
-    let q₂ = p₂ .before .before .before in
+    let q₂ = p₂ .before in
     let t = q₂ .before in
     let p₁ = t .before in
-    let q₁ = p₁ .before .before .before in
+    let q₁ = p₁ .before in
     let o = one t in
     let s = start o in
     let line = s .args .line .now in
-    let store = s .args .store .now in
-    let make = point (b s) store in
-    let first = point-is (b s) store (q₁ .point-plan .result) (p₁ .before .before .level-words .ensures .0) (p₁ .before .level-words2 .ensures .0) (p₁ .point-of .ensures) in
-    let second = point-is (b s) store (q₂ .point-plan2 .result) (p₂ .before .before .level-words3 .ensures .0) (p₂ .before .level-words4 .ensures .0) (p₂ .point-of2 .ensures) in
-    let written = two-written line (p₁ .point-of .result) (p₂ .point-of2 .result) (omega arith) in
-    let points = points-are make (F s) (s .args .c) (one-is o) (q₁ .point-plan .ensures) first (two-is t) (q₂ .point-plan2 .ensures) second in (
+    let make = point (b s) (s .args .store .now) in
+    let written = two-written line (p₁ .one-point .result) (p₂ .one-point2 .result) (omega arith) in
+    let points = points-are make (F s) (s .args .c) (one-is o) (q₁ .point-plan .ensures) (p₁ .one-point .ensures) (two-is t) (q₂ .point-plan2 .ensures) (p₂ .one-point2 .ensures) in (
       refl,
       control-is (F s) (s .args .c) (one-is o) (two-is t) (m .point-moved2 .ensures),
       values-are (F s) (s .args .c) (one-is o) (q₁ .point-plan .ensures) (c .before .values-made .ensures) (two-is t) (q₂ .point-plan2 .ensures) (c .values-made2 .ensures),
@@ -231,18 +194,12 @@ one-output-spec =
     (tie.spec
     glide-moved-requires
     point-plan-requires
-    level-words-requires
-    level-words-requires-2
-    point-of-requires
+    one-point-requires
     point-moved-requires
     point-plan-requires-2
-    level-words-requires-3
-    level-words-requires-4
-    point-of-requires-2
-    cast-line
-    slice-set-from-line
-    cast-line-2
-    slice-set-from-line-2
+    one-point-requires-2
+    slice-set-from-second
+    slice-set-from-first
     point-moved-requires-2
     values-made-requires
     values-made-requires-2

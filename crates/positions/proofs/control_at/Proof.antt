@@ -5,7 +5,6 @@ use native.Mathlib.Omega.{arith}
 use borrow.Author.Tests.{ne-eqb}
 use Rattle.control.specs.declared.Glide.{Glide}
 use Rattle.control.specs.declared.Control.{Control}
-use Rattle.control.specs.Moves.{noFade}
 use Rattle.positions.specs.Inner.{rateAt, controlAt}
 use Rattle.positions.proofs.Glides.{rate-readable}
 use Rattle.positions.proofs.control_at.Statement.{statement}
@@ -24,7 +23,7 @@ returns c =
     let p = s .pre in
     let i = s .args .i in
     let rate = c .before .rate-at .ensures (rateAt (s .args .c) i) (p .1 .low i (p .2) (p .3)) (p .1 .high i (p .2) (p .3)) in
-    let after : ℕ → Glide → Control = λ R g. record { top = s .args .c .top; fade = noFade (s .args .c .fade .from); rate = R; glide = g; position = s .args .position } in
+    let after : ℕ → Glide → Control = λ R g. record { top = s .args .c .top; fade = s .args .f; rate = R; glide = g; position = s .args .position } in
     simp (ne-eqb i 0 (λ e. absurd (omega arith))) (ap₂ after rate (c .glide-at .ensures))
 
 pub control-at-spec : {M : Type 1} → statement M

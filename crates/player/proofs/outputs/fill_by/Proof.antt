@@ -161,13 +161,11 @@ next-points-requires c κs =
     let u = s a in
     let r = c .before .run-length .ensures in
     let ready = filled-ready (filled a) (fine u .valid) in (
-      (
-        subst (λ T. LayoutOf (b u) (store u) T (u .args .layout)) (sym (ready .1)) (layout-is a),
-        subst (λ F. Valid F (a .loop .control)) (sym (fade-is a)) (ready .0),
-        filled a .long,
-        rw r (le-min (omega arith) (omega arith)),
-        rw r (min-le-left 64 _),
-      ),
+      subst (λ T. LayoutOf (b u) (store u) T (u .args .layout)) (sym (ready .1)) (layout-is a),
+      subst (λ F. Valid F (a .loop .control)) (sym (fade-is a)) (ready .0),
+      filled a .long,
+      rw r (le-min (omega arith) (omega arith)),
+      rw r (min-le-left 64 _),
       u .pre .0,
     )
 

@@ -1,0 +1,137 @@
+-- `windows::staging::copied` meets its contract. The loop's invariant: the words passed are written, the last first, and no misses are counted where
+-- they lie within the limit. Assumes nothing.
+use mathlib.Core.Bool.{Bool}
+use mathlib.Core.List.{List}
+use mathlib.Core.Path.{_≡_, refl, sym, ap, _∙_}
+use Prim.Native.Nat.{ℕ, _-_, _≤_, _<_}
+use native.Mathlib.Omega.{arith}
+use borrow.Author.Needs.{needs}
+use lib.Dec.{eqb}
+use lib.IntN.{ℤ, pos, negℤ, natAbs, _-ℤ_, +ℤ-idl}
+use lib.ListN.{length, length-set}
+use lib.Signed.{_≤ℤ_}
+use mir.Syntax.{w32}
+use mir.Val.{SFits, toZ}
+use Rattle.arith.specs.Lists.{at}
+use Rattle.arith.specs.Tests.{within, every}
+use Rattle.arith.proofs.Bits.{reads, read32}
+use Rattle.arith.proofs.Integers.{abs-≤}
+use Rattle.arith.proofs.Lists.{filled-more}
+use Rattle.arith.proofs.Tests.{every-at, every-count, within-true}
+use Rattle.windows.proofs.Staged.{negated-fits}
+use Rattle.windows.proofs.staging.copied.Statement.{statement}
+use Rattle.windows.proofs.staging.copied.Tie as tie
+
+-- word k from the last back
+abbrev back : List ℤ → ℕ → ℤ
+back words k = at words (length words - 1 - k)
+
+-- whether it lies within the limit
+abbrev holds : List ℤ → ℤ → ℤ → ℕ → Bool
+holds words lo hi k = within lo hi (back words k)
+
+abbrev Inv-loop : tie.InvT-loop
+Inv-loop window₀ words bound count low misses₀ k₀ window misses k =
+    (k ≤ length words) × (length window ≡ length window₀) × (misses ≤ k) × ((j : ℕ) → j < k → at window j ≡ back words j)
+    × (eqb misses 0 ≡ every k (holds words (toZ w32 low) (toZ w32 bound)))
+
+abbrev μ-loop : tie.MeasureT-loop
+μ-loop window₀ words bound count low misses₀ k₀ window misses k = length words - k
+
+sub-low : tie.Need-sub-low Inv-loop μ-loop
+sub-low c = simp (reads, c .fits .bound, +ℤ-idl) (negated-fits (c .args .bound) (c .pre .2))
+
+loop-holds : tie.Need-loop-holds Inv-loop μ-loop
+unfolding every
+loop-holds c = (omega arith, refl, omega arith, (λ j h. absurd (omega arith)), refl)
+
+sub-i : tie.Need-sub-i Inv-loop μ-loop
+sub-i c = omega arith
+
+sub-i-2 : tie.Need-sub-i-2 Inv-loop μ-loop
+sub-i-2 c = omega arith
+
+mul-window : tie.Need-mul-window Inv-loop μ-loop
+mul-window c = omega arith
+
+shared-slice-copy-out-window : tie.Need-shared-slice-copy-out-window Inv-loop μ-loop
+shared-slice-copy-out-window c = omega arith
+
+mul-t13 : tie.Need-mul-t13 Inv-loop μ-loop
+mul-t13 c = omega arith
+
+slice-set-from-window : tie.Need-slice-set-from-window Inv-loop μ-loop
+slice-set-from-window c = omega arith
+
+word-between-requires : tie.Need-word-between-requires Inv-loop μ-loop
+word-between-requires c κs = omega arith
+
+miss-requires : tie.Need-miss-requires Inv-loop μ-loop
+miss-requires c κs = search needs
+
+add-misses : tie.Need-add-misses Inv-loop μ-loop
+add-misses c = omega arith
+
+add-k : tie.Need-add-k Inv-loop μ-loop
+add-k c = omega arith
+
+loop-less : tie.Need-loop-less Inv-loop μ-loop
+loop-less c = omega arith
+
+loop-again : tie.Need-loop-again Inv-loop μ-loop
+loop-again c =
+    let t = c .before .before .before .before in
+    let l = t .loop in
+    let words = t .before .args .words .now in
+    let bound = t .before .args .bound in
+    let f : SFits w32 (back words (l .k)) = record { sfits = c .before .before .window .given } in (
+      omega arith,
+      simp length-set (l .inv .1),
+      omega arith,
+      simp (reads, f) (filled-more (pos 0) (back words) (l .window) (l .k) (omega arith) (l .inv .3) refl),
+      every-count (l .k) (holds words (read32 (pos 0 -ℤ read32 bound)) (read32 bound)) (l .misses) (l .inv .4) (c .before .word-between .ensures) (c .miss .ensures .0),
+    )
+
+same-length : tie.Need-same-length Inv-loop μ-loop
+same-length c = c .before .loop .inv .1
+
+-- between −b and b
+inside : (b x : ℤ) → b ≡ pos (natAbs b) → (negℤ b ≤ℤ x) × (x ≤ℤ b) → natAbs x ≤ natAbs b
+inside b x e h = abs-≤ x (rw e at (h .1), rw e at (h .0))
+
+returns : tie.Need-returns Inv-loop μ-loop
+returns c =
+    let l = c .before .loop in
+    let s = c .before .before in
+    let words = s .args .words .now in
+    let b = s .args .bound in (
+      (λ k h. l .inv .3 k (omega arith) ∙ ap (at words) (omega arith)),
+      λ e k h.
+          let all = simp (reads, s .fits .bound, +ℤ-idl, negated-fits b (s .pre .2)) at (l .inv .4) in
+          let i : length words - 1 - (length words - 1 - k) ≡ k = omega arith in
+          let w = within-true (negℤ b) b (back words (length words - 1 - k)) (every-at (l .k) (holds words (negℤ b) b) (sym all ∙ e) (length words - 1 - k) (omega arith)) in
+          inside b (at words k) (s .pre .3) (rw i at w),
+    )
+
+pub copied-spec : {M : Type 1} → statement M
+copied-spec =
+    tie.close
+    (tie.spec
+    Inv-loop
+    μ-loop
+    sub-low
+    loop-holds
+    sub-i
+    sub-i-2
+    mul-window
+    shared-slice-copy-out-window
+    mul-t13
+    slice-set-from-window
+    word-between-requires
+    miss-requires
+    add-misses
+    add-k
+    loop-less
+    loop-again
+    same-length
+    returns)

@@ -1,0 +1,188 @@
+-- `windows::sums::part_values_by` meets its contract. The loop's invariant: the values of the places passed are written, the newest in front. Assumes nothing.
+use mathlib.Core.Path.{_≡_, refl, sym, ap, ap₂, subst, _∙_}
+use mathlib.Core.List.{List}
+use Prim.Native.Nat.{ℕ, _-_, _≤_, _<_}
+use native.Mathlib.Omega.{arith}
+use lib.IntN.{ℤ}
+use lib.ListN.{length, getD, length-set}
+use mir.Syntax.{w32, w64}
+use mir.Val.{SFits}
+use Rattle.arith.specs.Lists.{at}
+use Rattle.arith.proofs.Bits.{reads}
+use Rattle.arith.proofs.Written.{newest, newest-none, newest-next}
+use Rattle.windows.specs.Sums.{sumHere, sumNext, PartSums, partsValue}
+use Rattle.windows.proofs.sums.part_values_by.Statement.{statement}
+use Rattle.windows.proofs.sums.part_values_by.Tie as tie
+
+-- the value at place k
+abbrev valueAt : List ℤ → List ℤ → List ℤ → List ℤ → List ℤ → ℕ → List ℕ → List ℕ → List ℕ → ℕ → ℤ
+valueAt one two low high table W rows firsts offsets k =
+    partsValue (at one k) (sumHere low table W rows firsts k) (sumNext high table W rows firsts k) (at two k) (getD offsets k 0)
+
+abbrev Inv-loop : tie.InvT-loop
+Inv-loop line₀ end count one two low high table rows firsts offsets width k₀ line k =
+    (k ≤ count) × (length line ≡ length line₀) × (line ≡ newest line₀ end (valueAt one two low high table width rows firsts offsets) k)
+
+abbrev μ-loop : tie.MeasureT-loop
+μ-loop line₀ end count one two low high table rows firsts offsets width k₀ line k = count - k
+
+-- where a turn's function began
+abbrev from : tie.At-loop Inv-loop μ-loop → tie.Start Inv-loop μ-loop
+from t = t .before .before .before .before
+
+abbrev values : tie.Start Inv-loop μ-loop → ℕ → ℤ
+values s =
+    valueAt (s .args .one .now) (s .args .two .now) (s .args .low .now) (s .args .high .now) (s .args .table .now) (s .args .width) (s .args .rows .now) (s .args .firsts .now)
+    (s .args .offsets .now)
+
+-- in a turn, when all sums are there
+module _ (c : tie.After-part-value-arg2 Inv-loop μ-loop) where
+  abbrev t : tie.At-loop Inv-loop μ-loop
+  t = c .before .before .before .before .before .before .before
+
+  abbrev s : tie.Start Inv-loop μ-loop
+  s = from t
+
+  abbrev k : ℕ
+  k = t .loop .k
+
+  abbrev dots : tie.After-dot2 Inv-loop μ-loop
+  dots = c .before .before
+
+  one-fits : SFits w32 (at (s .args .one .now) k)
+  one-fits = record { sfits = c .before .part-value-arg .given }
+
+  two-fits : SFits w32 (at (s .args .two .now) k)
+  two-fits = record { sfits = c .part-value-arg2 .given }
+
+  low-fits : SFits w32 (dots .before .dot .result)
+  low-fits = record { sfits = dots .before .dot .ok }
+
+  high-fits : SFits w32 (dots .dot2 .result)
+  high-fits = record { sfits = dots .dot2 .ok }
+
+  sums : k < s .args .count → PartSums (at (s .args .one .now) k) (dots .before .dot .result) (dots .dot2 .result) (at (s .args .two .now) k) (getD (s .args .offsets .now) k 0)
+  sums h =
+      subst (λ x. PartSums (at (s .args .one .now) k) x (dots .dot2 .result) (at (s .args .two .now) k) (getD (s .args .offsets .now) k 0)) (sym (dots .before .dot .ensures))
+      (subst (λ y. PartSums (at (s .args .one .now) k) (sumHere (s .args .low .now) (s .args .table .now) (s .args .width) (s .args .rows .now) (s .args .firsts .now) k) y (at (s .args .two .now) k) (getD (s .args .offsets .now) k 0))
+      (sym (dots .dot2 .ensures)) (s .pre .1 .1 k h))
+
+loop-holds : tie.Need-loop-holds Inv-loop μ-loop
+loop-holds c =
+    let s = c .before .before .before in
+    (omega arith, refl, newest-none (s .args .line .now) (s .args .end) (values s))
+
+mul-first : tie.Need-mul-first Inv-loop μ-loop
+mul-first c = omega arith
+
+shared-slice-read-first : tie.Need-shared-slice-read-first Inv-loop μ-loop
+shared-slice-read-first c = omega (arith, from (c .before .before) .pre .0 .4 .firsts-room)
+
+mul-row : tie.Need-mul-row Inv-loop μ-loop
+mul-row c = omega arith
+
+shared-slice-read-row : tie.Need-shared-slice-read-row Inv-loop μ-loop
+shared-slice-read-row c = omega (arith, from (c .before .before .before) .pre .0 .4 .rows-room)
+
+dot-requires : tie.Need-dot-requires Inv-loop μ-loop
+dot-requires c κs = from (c .before .before .before) .pre .0 .4 .here (c .before .before .before .loop .k) (omega arith)
+
+add-dot : tie.Need-add-dot Inv-loop μ-loop
+add-dot c = omega (arith, from (c .before .before .before .before) .pre .0 .4 .next (c .before .before .before .before .loop .k) (omega arith) .table-room)
+
+dot-requires-2 : tie.Need-dot-requires-2 Inv-loop μ-loop
+dot-requires-2 c κs = from (c .before .before .before .before) .pre .0 .4 .next (c .before .before .before .before .loop .k) (omega arith)
+
+mul-part-value : tie.Need-mul-part-value Inv-loop μ-loop
+mul-part-value c = omega arith
+
+shared-slice-copy-out-part-value : tie.Need-shared-slice-copy-out-part-value Inv-loop μ-loop
+shared-slice-copy-out-part-value c = omega (arith, from (c .before .before .before .before .before) .pre .0 .2)
+
+mul-part-value-2 : tie.Need-mul-part-value-2 Inv-loop μ-loop
+mul-part-value-2 c = omega arith
+
+shared-slice-copy-out-part-value-2 : tie.Need-shared-slice-copy-out-part-value-2 Inv-loop μ-loop
+shared-slice-copy-out-part-value-2 c = omega (arith, from (c .before .before .before .before .before .before) .pre .0 .3)
+
+mul-part-value-3 : tie.Need-mul-part-value-3 Inv-loop μ-loop
+mul-part-value-3 c = omega arith
+
+shared-slice-read-part-value : tie.Need-shared-slice-read-part-value Inv-loop μ-loop
+shared-slice-read-part-value c = omega (arith, from (c .before .before .before .before .before .before .before .before) .pre .1 .0)
+
+part-value-requires : tie.Need-part-value-requires Inv-loop μ-loop
+part-value-requires c κs =
+    let b = c .before in
+    simp (reads, one-fits b, low-fits b, high-fits b, two-fits b) (sums b (omega arith))
+
+sub-value : tie.Need-sub-value Inv-loop μ-loop
+sub-value c = omega (arith, from (c .before .before .before .before .before .before .before .before .before) .pre .0)
+
+sub-value-2 : tie.Need-sub-value-2 Inv-loop μ-loop
+sub-value-2 c = omega (arith, from (c .before .before .before .before .before .before .before .before .before) .pre .0)
+
+mul-value : tie.Need-mul-value Inv-loop μ-loop
+mul-value c = omega (arith, from (c .before .before .before .before .before .before .before .before .before) .pre .0)
+
+slice-set-from-value : tie.Need-slice-set-from-value Inv-loop μ-loop
+slice-set-from-value c = omega (arith, from (c .before .before .before .before .before .before .before .before .before) .pre .0, c .before .before .before .before .before .before .before .before .before .loop .inv .1)
+
+add-k : tie.Need-add-k Inv-loop μ-loop
+add-k c = omega arith
+
+loop-less : tie.Need-loop-less Inv-loop μ-loop
+loop-less c = omega arith
+
+loop-again : tie.Need-loop-again Inv-loop μ-loop
+loop-again c =
+    let b = c .before .before in
+    let fits : SFits w64 (c .part-value .result) = record { sfits = c .part-value .ok } in
+    let value : c .part-value .result ≡ values (s b) (k b) =
+    (simp (reads, one-fits b, low-fits b, high-fits b, two-fits b) at (c .part-value .ensures))
+    ∙ ap₂ (λ x y. partsValue (at (s b .args .one .now) (k b)) x y (at (s b .args .two .now) (k b)) (getD (s b .args .offsets .now) (k b) 0)) (dots b .before .dot .ensures) (dots b .dot2 .ensures) in
+    let before = s b .pre .0 in (
+      omega arith,
+      simp length-set (t b .loop .inv .1),
+      simp (reads, fits) (newest-next (s b .args .line .now) (s b .args .end) (values (s b)) (k b) (c .part-value .result) (before .1) (omega (arith, before .0)) value refl (omega arith) (t b .loop .inv .2)),
+    )
+
+same-length : tie.Need-same-length Inv-loop μ-loop
+same-length c = c .before .loop .inv .1
+
+returns : tie.Need-returns Inv-loop μ-loop
+returns c =
+    let s = from (c .before) in
+    let e : c .before .loop .k ≡ s .args .count = omega arith in
+    c .before .loop .inv .2 ∙ ap (newest (s .args .line .now) (s .args .end) (values s)) e
+
+pub part-values-by-spec : {M : Type 1} → statement M
+part-values-by-spec =
+    tie.close
+    (tie.spec
+    Inv-loop
+    μ-loop
+    loop-holds
+    mul-first
+    shared-slice-read-first
+    mul-row
+    shared-slice-read-row
+    dot-requires
+    add-dot
+    dot-requires-2
+    mul-part-value
+    shared-slice-copy-out-part-value
+    mul-part-value-2
+    shared-slice-copy-out-part-value-2
+    mul-part-value-3
+    shared-slice-read-part-value
+    part-value-requires
+    sub-value
+    sub-value-2
+    mul-value
+    slice-set-from-value
+    add-k
+    loop-less
+    loop-again
+    same-length
+    returns)
