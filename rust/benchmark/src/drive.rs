@@ -18,6 +18,16 @@ pub enum Course {
     /// Between two rates an octave apart, each for [`CROSSING`] outputs or a
     /// block, if that is longer.
     Between(f32, f32),
+    /// As many fades as there can be: before each block a jump to a higher rate, `from`,
+    /// and a glide down to the lower one, `to`, over `count` outputs.
+    Fades {
+        /// Where a block begins.
+        from: f32,
+        /// Where it ends.
+        to: f32,
+        /// Outputs of the glide.
+        count: usize,
+    },
 }
 
 /// Outputs between two crossings of an octave.
@@ -39,6 +49,7 @@ enum Order {
     None,
     Jump(f32),
     Glide(f32, u32),
+    JumpAndGlide(f32, f32, u32),
 }
 
 /// A player of document 01's rules.
@@ -47,8 +58,8 @@ pub trait Player {
     fn jump(&mut self, rate: f32);
     /// Orders a glide.
     fn glide(&mut self, rate: f32, count: u32);
-    /// Plays a block.
-    fn play(&mut self, setting: &Setting, out: &mut [i16]);
+    /// Plays a block, and gives its multiply count.
+    fn play(&mut self, setting: &Setting, out: &mut [i16]) -> u64;
 }
 
 impl Player for tone::Voice {
@@ -60,8 +71,8 @@ impl Player for tone::Voice {
         tone::Voice::glide(self, rate, count).expect("an accepted glide");
     }
 
-    fn play(&mut self, setting: &Setting, out: &mut [i16]) {
-        tone::Voice::play(self, &setting.book, &setting.store, out).expect("an accepted play");
+    fn play(&mut self, setting: &Setting, out: &mut [i16]) -> u64 {
+        tone::Voice::play(self, &setting.book, &setting.store, out).expect("an accepted play")
     }
 }
 
@@ -74,8 +85,8 @@ impl Player for twin::Voice {
         assert_eq!(twin::Voice::glide(self, rate, count), 0);
     }
 
-    fn play(&mut self, setting: &Setting, out: &mut [i16]) {
-        twin::Voice::play(self, &setting.book, &setting.store, out).expect("an accepted play");
+    fn play(&mut self, setting: &Setting, out: &mut [i16]) -> u64 {
+        twin::Voice::play(self, &setting.book, &setting.store, out).expect("an accepted play")
     }
 }
 
@@ -85,9 +96,34 @@ impl Course {
         match *self {
             Course::Around(rate) => rate,
             Course::Between(low, _) => low,
+            Course::Fades { to, .. } => to,
         }
     }
+
+    /// The course with the most fades that blocks of a length can have, and the F for
+    /// it. Up to 256 outputs two fades fill a block: the first begins with it, beyond
+    /// the octave of `rate`, and the second where the glide has come down to `rate`
+    /// and the first has ended. A longer block has one fade to the top level and one
+    /// to each level on the way down.
+    pub fn fades(rate: f32, block: usize) -> (Course, usize) {
+        let fade = block.min(MOST_FADE);
+        let (from, count) = if block == fade {
+            let octave_end = 2f32.powi(rate.log2().floor().max(0.0) as i32 + 1);
+            (1.05 * octave_end, fade / 2)
+        } else {
+            // So that the last one ends inside the block.
+            (TOP_RATE, 3 * block / 4)
+        };
+        let to = rate;
+        (Course::Fades { from, to, count }, fade)
+    }
 }
+
+/// The largest F of a book.
+const MOST_FADE: usize = 256;
+
+/// A rate near the end of the top octave.
+const TOP_RATE: f32 = 31.5;
 
 /// The `index`th rate around a middle.
 fn around(middle: f32, index: usize) -> f32 {
@@ -112,17 +148,28 @@ impl Drive {
                     _ => Order::None,
                 }
             }
+            Course::Fades { from, to, count } => Order::JumpAndGlide(from, to, count as u32),
         }
     }
 
     /// One block with its order.
-    fn block(&self, index: usize, player: &mut impl Player, setting: &Setting, out: &mut [i16]) {
+    fn block(
+        &self,
+        index: usize,
+        player: &mut impl Player,
+        setting: &Setting,
+        out: &mut [i16],
+    ) -> u64 {
         match self.order(index) {
             Order::None => (),
             Order::Jump(rate) => player.jump(rate),
             Order::Glide(rate, count) => player.glide(rate, count),
+            Order::JumpAndGlide(from, to, count) => {
+                player.jump(from);
+                player.glide(to, count);
+            }
         }
-        player.play(setting, out);
+        player.play(setting, out)
     }
 
     /// Plays the drive; gives a sum of outputs, which keeps the work from being
@@ -169,6 +216,21 @@ impl Drive {
                 .count();
         }
         count
+    }
+
+    /// The share of the drive's points that lie inside a fade: those that cost two
+    /// values, by the multiply counts.
+    pub fn fade_share(&self, setting: &Setting) -> f64 {
+        let mut player = self.player();
+        let mut out = vec![0; self.block];
+        let blocks = self.outputs / self.block;
+        let multiplies: u64 = (0..blocks)
+            .map(|index| self.block(index, &mut player, setting, &mut out))
+            .sum();
+        let (taps, decimation) = (setting.book[0] as u64, setting.book[3] as u64);
+        let outputs = (blocks * self.block) as u64;
+        let values = (multiplies - outputs * (2 * decimation + 1)) / (2 * taps);
+        (values - 2 * outputs) as f64 / (2 * outputs) as f64
     }
 
     /// A fresh voice of the proved player.

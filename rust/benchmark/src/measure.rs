@@ -1,5 +1,7 @@
 //! Times: short repetitions of all competitors in turn, the shortest of each.
 
+use crate::drive::Drive;
+use crate::setting::Setting;
 use std::hint::black_box;
 use std::time::Instant;
 
@@ -24,4 +26,26 @@ pub fn shortest(competitors: &mut [Competitor], rounds: usize, units: usize) -> 
         }
     }
     times
+}
+
+/// The player on a drive.
+pub fn player<'a>(drive: Drive, setting: &'a Setting, name: &'a str) -> Competitor<'a> {
+    let mut out = vec![0; drive.block];
+    Competitor {
+        name,
+        work: Box::new(move || drive.play(&mut drive.player(), setting, &mut out)),
+    }
+}
+
+/// The player and the twin on a drive, after a comparison of both.
+pub fn players<'a>(drive: Drive, setting: &'a Setting) -> Vec<Competitor<'a>> {
+    drive.compare(setting);
+    let mut twin_out = vec![0; drive.block];
+    vec![
+        player(drive, setting, "player"),
+        Competitor {
+            name: "twin",
+            work: Box::new(move || drive.play(&mut drive.twin(), setting, &mut twin_out)),
+        },
+    ]
 }

@@ -9,18 +9,6 @@ pub const SAMPLES: usize = 1_048_576;
 /// T of the store.
 pub const TOP: u32 = 4;
 
-/// N
-const TAPS: usize = 12;
-
-/// M
-const PHASES: usize = 64;
-
-/// A
-const LEVEL_REACH: usize = 40;
-
-/// F
-const FADE: i32 = 64;
-
 /// 1 in a book.
 const ONE: f64 = 16384.0;
 
@@ -35,23 +23,84 @@ const LOUD_NOISE: f64 = 60000.0;
 /// The divisor that takes off 20 dB.
 pub const LOWER: i16 = 10;
 
-/// A book, a recording, and the store built from both.
+/// The octave's part that the phases leave: below 1, so that a book of one
+/// phase has taps beside the middle one.
+const PASS: f64 = 0.9375;
+
+/// The sizes of a book.
+#[derive(Clone, Copy, Debug, PartialEq)]
+pub struct Sizes {
+    /// N
+    pub taps: usize,
+    /// M
+    pub phases: usize,
+    /// A
+    pub level_reach: usize,
+    /// B
+    pub decimation: usize,
+    /// F
+    pub fade: usize,
+    /// What the level taps are.
+    pub level_taps: LevelTaps,
+}
+
+/// Kinds of level taps.
+#[derive(Clone, Copy, Debug, PartialEq)]
+pub enum LevelTaps {
+    /// Every second one is 0.
+    HalfBand,
+    /// None is 0.
+    Full,
+}
+
+impl Default for Sizes {
+    fn default() -> Sizes {
+        Sizes {
+            taps: 12,
+            phases: 64,
+            level_reach: 40,
+            decimation: 10,
+            fade: 64,
+            level_taps: LevelTaps::HalfBand,
+        }
+    }
+}
+
+/// A book, a recording, and the store built from both. Settings share what they
+/// have in common, so that its place in memory does not tell them apart.
+#[derive(Clone)]
 pub struct Setting {
-    /// The book's words; settings of one book share it, so that its place in memory
-    /// does not tell them apart.
+    /// The book's words.
     pub book: Rc<[i32]>,
     /// The recording.
-    pub samples: Vec<i16>,
+    pub samples: Rc<[i16]>,
     /// The recording as other resamplers take it.
-    pub floats: Vec<f32>,
+    pub floats: Rc<[f32]>,
     /// Its store, with the levels 0 to T.
-    pub store: Vec<i32>,
+    pub store: Rc<[i32]>,
 }
 
 impl Setting {
-    /// N = 12, M = 64, A = 40, F = 64, and B = `decimation`.
-    pub fn new(decimation: usize) -> Setting {
-        Setting::with(book(decimation).into(), recording(HUM, NOISE))
+    /// A book of these sizes and the hum.
+    pub fn new(sizes: Sizes) -> Setting {
+        Setting::with(book(sizes).into(), recording(HUM, NOISE))
+    }
+
+    /// The same recording with another book, whose store is left as it is where
+    /// the level taps are.
+    pub fn of_sizes(&self, sizes: Sizes) -> Setting {
+        let book = book(sizes);
+        let same_taps = level_taps_of(&book) == level_taps_of(&self.book);
+        let store = if same_taps {
+            Rc::clone(&self.store)
+        } else {
+            store(&book, &self.samples)
+        };
+        Setting {
+            book: book.into(),
+            store,
+            ..self.clone()
+        }
     }
 
     /// The same book with a louder hum, cut at full scale, so that many outputs are limited.
@@ -67,50 +116,81 @@ impl Setting {
     }
 
     fn with(book: Rc<[i32]>, samples: Vec<i16>) -> Setting {
-        let floats = samples.iter().map(|x| f32::from(*x) / 32768.0).collect();
-        let words = tone::store_words(samples.len(), TOP).expect("S and T are in range");
-        let mut store = vec![0; words];
-        tone::build(&book, &samples, TOP, &mut store).expect("the book is accepted");
         Setting {
+            floats: samples.iter().map(|x| f32::from(*x) / 32768.0).collect(),
+            store: store(&book, &samples),
+            samples: samples.into(),
             book,
-            samples,
-            floats,
-            store,
         }
     }
 }
 
+/// The store of a recording.
+fn store(book: &[i32], samples: &[i16]) -> Rc<[i32]> {
+    let words = tone::store_words(samples.len(), TOP).expect("S and T are in range");
+    let mut store = vec![0; words];
+    tone::build(book, samples, TOP, &mut store).expect("the book is accepted");
+    store.into()
+}
+
+/// h[0..A] of a book.
+fn level_taps_of(book: &[i32]) -> &[i32] {
+    let sizes: [usize; 3] = [0, 1, 2].map(|at| book[at] as usize);
+    let start = 5 + 2 * sizes[0] * sizes[1];
+    &book[start..=start + sizes[2]]
+}
+
 /// Windowed sincs, for the phases and for both halvings.
-fn book(decimation: usize) -> Vec<i32> {
+pub fn book(sizes: Sizes) -> Vec<i32> {
+    let Sizes { taps, phases, .. } = sizes;
     let impulse = |t: usize| {
-        let x = t as f64 / PHASES as f64 - TAPS as f64 / 2.0;
-        (ONE * sinc(x) * window(x / (TAPS as f64 / 2.0))).round() as i32
+        let x = t as f64 / phases as f64 - taps as f64 / 2.0;
+        (ONE * PASS * sinc(PASS * x) * window(x / (taps as f64 / 2.0))).round() as i32
     };
     // In the order of time, G_q[k] is impulse k × M + q, and 0 behind the last.
-    let count = TAPS * PHASES;
+    let count = taps * phases;
     let times: Vec<i32> = (0..count).map(impulse).chain([0]).collect();
-    let at = |place: usize| place % TAPS * PHASES + place / TAPS;
-    let mut words = [TAPS, PHASES, LEVEL_REACH, decimation]
-        .map(|size| size as i32)
-        .to_vec();
-    words.push(FADE);
+    let at = |place: usize| place % taps * phases + place / taps;
+    let mut words = vec![
+        taps as i32,
+        phases as i32,
+        sizes.level_reach as i32,
+        sizes.decimation as i32,
+        sizes.fade as i32,
+    ];
     words.extend((0..count).map(|place| times[at(place)]));
     words.extend((0..count).map(|place| times[at(place) + 1] - times[at(place)]));
-    words.extend(half_band(LEVEL_REACH));
-    if decimation == 0 {
-        words.push(ONE as i32);
-    } else {
-        words.extend(half_band(decimation));
-    }
+    words.extend(level_taps(sizes.level_taps, sizes.level_reach));
+    words.extend(half_band(sizes.decimation));
     words
 }
 
-/// Taps of a halving filter, the centre first.
-fn half_band(reach: usize) -> impl Iterator<Item = i32> {
-    (0..=reach).map(move |k| {
+/// Taps of a level, the centre first.
+fn level_taps(kind: LevelTaps, reach: usize) -> Vec<i32> {
+    match kind {
+        LevelTaps::HalfBand => half_band(reach),
+        LevelTaps::Full => low_pass(reach, 0.38)
+            .into_iter()
+            .map(|tap| if tap == 0 { 1 } else { tap })
+            .collect(),
+    }
+}
+
+/// Taps of a halving filter; of a single one there is all.
+fn half_band(reach: usize) -> Vec<i32> {
+    match reach {
+        0 => vec![ONE as i32],
+        _ => low_pass(reach, 0.5),
+    }
+}
+
+/// Taps that leave a part of the frequencies, the centre first.
+fn low_pass(reach: usize, pass: f64) -> Vec<i32> {
+    let tap = |k: usize| {
         let x = k as f64;
-        (0.5 * ONE * sinc(x / 2.0) * window(x / (reach as f64 + 1.0))).round() as i32
-    })
+        (pass * ONE * sinc(pass * x) * window(x / (reach as f64 + 1.0))).round() as i32
+    };
+    (0..=reach).map(tap).collect()
 }
 
 fn sinc(x: f64) -> f64 {

@@ -2,7 +2,7 @@
 //! player and twin agree on both.
 
 use benchmark::drive::{Course, Drive};
-use benchmark::setting::{Setting, LOWER};
+use benchmark::setting::{Setting, Sizes, LOWER};
 
 /// Outputs of a drive: full blocks of 3 and of 64.
 const OUTPUTS: usize = 3 * 1024;
@@ -10,7 +10,11 @@ const OUTPUTS: usize = 3 * 1024;
 #[test]
 fn loud_outputs_are_limited_and_quiet_ones_are_not() {
     for decimation in [10, 3, 0] {
-        let loud = Setting::new(decimation).loud();
+        let sizes = Sizes {
+            decimation,
+            ..Sizes::default()
+        };
+        let loud = Setting::new(sizes).loud();
         let quiet = loud.divided(LOWER);
         for block in [3, 64, OUTPUTS] {
             let drive = Drive {
@@ -30,7 +34,7 @@ fn loud_outputs_are_limited_and_quiet_ones_are_not() {
 /// Both ends are met, and by a hum that reaches both ends itself.
 #[test]
 fn both_ends() {
-    let loud = Setting::new(10).loud();
+    let loud = Setting::new(Sizes::default()).loud();
     for end in [i16::MIN, i16::MAX] {
         assert!(loud.samples.contains(&end));
     }

@@ -4,6 +4,7 @@
 //! `TWIN_SEED` and `TWIN_COUNT` set the first drive's seed and the count of
 //! drives.
 
+use benchmark::setting::{book, Sizes};
 use benchmark::twin;
 use renderer::book::assemble;
 use renderer::random::{
@@ -352,6 +353,54 @@ fn drives() {
     if count >= 3000 {
         seen.all();
     }
+}
+
+/// A book of the benchmark with phase `q` replaced.
+fn with_phase(sizes: Sizes, q: usize, phase: &[i32]) -> Vec<i32> {
+    let words = book(sizes);
+    let array = sizes.taps * sizes.phases;
+    let mut impulses = words[5..5 + array].to_vec();
+    impulses[q * sizes.taps..][..sizes.taps].copy_from_slice(phase);
+    let (level_taps, decimation_taps) = words[5 + 2 * array..].split_at(sizes.level_reach + 1);
+    let five = words[..5].try_into().expect("five sizes");
+    assemble(five, &impulses, level_taps, decimation_taps)
+}
+
+/// Impulses at the ends of their range and sums at their limit, in the last phase of
+/// books of many sizes.
+#[test]
+fn limits_of_a_phase() {
+    let mut seen = BTreeSet::new();
+    for taps in (2..=24).step_by(2) {
+        for phases in [1, 2, 16, 128] {
+            let sizes = Sizes {
+                taps,
+                phases,
+                ..Sizes::default()
+            };
+            for last_words in [
+                [0, 32767],
+                [0, 32768],
+                [0, -32768],
+                [0, -32769],
+                [-32768, 32767],
+                [-32768, -32768],
+                [0, i32::MAX],
+                [0, i32::MIN],
+            ] {
+                for spare in [0, 1, -2] {
+                    let mut phase = vec![0; taps];
+                    phase[taps - 2..].copy_from_slice(&last_words);
+                    phase[taps / 2] = phase[taps / 2].wrapping_add(spare);
+                    let book = with_phase(sizes, phases - 1, &phase);
+                    let number = archive::check(&book);
+                    assert_eq!(number, twin::check(&book), "{sizes:?} {phase:?}");
+                    seen.insert(number);
+                }
+            }
+        }
+    }
+    assert_eq!(seen, [0, 4, 5, 7].into());
 }
 
 #[test]

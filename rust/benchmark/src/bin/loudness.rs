@@ -6,7 +6,7 @@
 //! ```
 
 use benchmark::drive::{Course, Drive};
-use benchmark::setting::{Setting, LOWER};
+use benchmark::setting::{Setting, Sizes, LOWER};
 use std::process::ExitCode;
 
 const USAGE: &str = "usage: loudness loud|quiet B BLOCK";
@@ -26,7 +26,11 @@ fn asked() -> Option<(Setting, Drive)> {
         _ => return None,
     };
     // the same steps for both, so that all lies at the same addresses
-    let loud = Setting::new(decimation.parse().ok()?).loud();
+    let sizes = Sizes {
+        decimation: decimation.parse().ok()?,
+        ..Sizes::default()
+    };
+    let loud = Setting::new(sizes).loud();
     let setting = loud.divided(divisor);
     let drive = Drive {
         course: Course::Around(1.5),

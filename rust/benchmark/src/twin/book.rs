@@ -87,18 +87,18 @@ impl<'a> Book<'a> {
     /// test per word.
     fn faults(&self) -> Faults {
         match self.taps {
-            2 => Faults::of::<2>(self),
-            4 => Faults::of::<4>(self),
-            6 => Faults::of::<6>(self),
-            8 => Faults::of::<8>(self),
-            10 => Faults::of::<10>(self),
-            12 => Faults::of::<12>(self),
-            14 => Faults::of::<14>(self),
-            16 => Faults::of::<16>(self),
-            18 => Faults::of::<18>(self),
-            20 => Faults::of::<20>(self),
-            22 => Faults::of::<22>(self),
-            _ => Faults::of::<24>(self),
+            2 => Faults::of::<2, 2>(self),
+            4 => Faults::of::<4, 2>(self),
+            6 => Faults::of::<6, 3>(self),
+            8 => Faults::of::<8, 2>(self),
+            10 => Faults::of::<10, 5>(self),
+            12 => Faults::of::<12, 3>(self),
+            14 => Faults::of::<14, 7>(self),
+            16 => Faults::of::<16, 2>(self),
+            18 => Faults::of::<18, 9>(self),
+            20 => Faults::of::<20, 5>(self),
+            22 => Faults::of::<22, 11>(self),
+            _ => Faults::of::<24, 3>(self),
         }
     }
 }
@@ -114,44 +114,86 @@ struct Faults {
 }
 
 impl Faults {
-    fn of<const N: usize>(book: &Book) -> Faults {
-        let last = book.impulses.len() - N;
-        let (phases, last_phase) = book.impulses.split_at(last);
-        let (steps, last_steps) = book.differences.split_at(last);
-        // G_M is G_0 moved by one place, with a 0 behind it.
-        let mut next = [0; N];
-        next[..N - 1].copy_from_slice(&book.impulses[1..N]);
-        let most = run_faults(phases, &book.impulses[N..], steps);
-        let rest = run_faults(last_phase, &next, last_steps);
+    /// Of phases with N words, looked at EIGHTS times eight words at a time.
+    fn of<const N: usize, const EIGHTS: usize>(book: &Book) -> Faults {
+        let (range, sum) = if columns_good::<N, EIGHTS>(book.impulses) {
+            (false, false)
+        } else {
+            let (bits, largest) = largest_sum::<N>(book.impulses);
+            (bits & !0xffff != 0, largest > 65536)
+        };
         Faults {
-            range: (most.0 | rest.0) & !0xffff != 0,
-            difference: most.1 | rest.1 != 0,
-            sum: largest_sum::<N>(book.impulses) > 65536,
+            range,
+            difference: differences_wrong::<N>(book),
+            sum,
         }
     }
 }
 
-/// Bits that are left by words out of range, above the lowest 16, and by wrong
-/// differences: one pass, without a branch.
+/// Fewer turns than these are tested sooner phase by phase.
+const FEW_TURNS: usize = 4;
+
+/// Whether all words are in range and all sums too, since even the sum over the columns
+/// of the largest size in each is: true of usual books. Sizes are taken one too large.
+fn columns_good<const N: usize, const EIGHTS: usize>(impulses: &[i32]) -> bool {
+    let (turns, rest) = impulses.as_chunks::<8>().0.as_chunks::<EIGHTS>();
+    if !rest.is_empty() || turns.len() < FEW_TURNS {
+        return false;
+    }
+    let (mut high, mut low) = ([[0i16; 8]; EIGHTS], [[0i16; 8]; EIGHTS]);
+    for turn in turns {
+        for ((words, high), low) in turn.iter().zip(&mut high).zip(&mut low) {
+            for ((word, high), low) in words.iter().zip(high).zip(low) {
+                let word = (*word).clamp(-32768, 32767) as i16;
+                *high = (*high).max(word);
+                *low = (*low).min(word);
+            }
+        }
+    }
+    let mut columns = [0i16; N];
+    let (high, low) = (high.as_flattened(), low.as_flattened());
+    for (highs, lows) in high.chunks(N).zip(low.chunks(N)) {
+        for ((column, high), low) in columns.iter_mut().zip(highs).zip(lows) {
+            *column = (*column).max(*high).max(!low);
+        }
+    }
+    let sum: u32 = columns.iter().map(|size| *size as u32 + 1).sum();
+    sum <= 65536 && !columns.contains(&i16::MAX)
+}
+
+/// Number 6, where 4 does not hold.
+fn differences_wrong<const N: usize>(book: &Book) -> bool {
+    let last = book.impulses.len() - N;
+    let (phases, last_phase) = book.impulses.split_at(last);
+    let (steps, last_steps) = book.differences.split_at(last);
+    // G_M is G_0 moved by one place, with a 0 behind it.
+    let mut next = [0; N];
+    next[..N - 1].copy_from_slice(&book.impulses[1..N]);
+    let most = wrong_bits(phases, &book.impulses[N..], steps);
+    most | wrong_bits(last_phase, &next, last_steps) != 0
+}
+
+/// Bits that are left by wrong differences: one pass, without a branch.
 #[inline(always)]
-fn run_faults(impulses: &[i32], next: &[i32], steps: &[i32]) -> (i32, i32) {
+fn wrong_bits(impulses: &[i32], next: &[i32], steps: &[i32]) -> i32 {
     let words = impulses.iter().zip(next).zip(steps);
-    words.fold((0, 0), |(range, difference), ((impulse, next), step)| {
-        (
-            range | impulse.wrapping_add(32768),
-            difference | (step ^ next.wrapping_sub(*impulse)),
-        )
+    words.fold(0, |bits, ((impulse, next), step)| {
+        bits | (step ^ next.wrapping_sub(*impulse))
     })
 }
 
-/// The largest sum of a phase's absolute values, of words in range.
-fn largest_sum<const N: usize>(impulses: &[i32]) -> u32 {
+/// Bits that are left by words out of range, above the lowest 16, and the largest sum
+/// of a phase's absolute values where there is none.
+fn largest_sum<const N: usize>(impulses: &[i32]) -> (i32, u32) {
     let phases = impulses.as_chunks::<N>().0.iter();
-    phases.fold(0, |largest, phase| {
-        let sum = phase
-            .iter()
-            .fold(0u32, |sum, x| sum.wrapping_add(x.unsigned_abs()));
-        largest.max(sum)
+    phases.fold((0, 0), |(bits, largest), phase| {
+        let (bits, sum) = phase.iter().fold((bits, 0u32), |(bits, sum), x| {
+            (
+                bits | x.wrapping_add(32768),
+                sum.wrapping_add(x.unsigned_abs()),
+            )
+        });
+        (bits, largest.max(sum))
     })
 }
 

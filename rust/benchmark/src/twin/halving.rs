@@ -1,33 +1,122 @@
 //! Every second sum of taps times words around a centre: a level from the one
 //! below it, and outputs from points.
+//!
+//! SSE2 multiplies unsigned 32-bit words two at a time, and signed ones not at all.
+//! So words are raised above 0, and taps are taken by their size, those above 0
+//! first; what the raising adds is the same in every sum. Taps that are 0 are left
+//! out: of a half-band filter that is every second one.
+
+/// Most sums of a call.
+pub(super) const BLOCK: usize = 64;
 
 /// Most taps beside the centre.
 pub(super) const MOST_REACH: usize = 40;
 
-/// Sums that are made at a time: as many as there are registers for.
-const GROUP: usize = 8;
+/// Most sums that are made at a time: as many as there are registers for.
+const MOST_GROUP: usize = 16;
 
-/// Words that one tap is multiplied with in a group, on one side.
-const WINDOW: usize = 2 * GROUP - 1;
+/// What a word is raised by; none is larger.
+const RAISE: u32 = 1 << 29;
 
-/// Symmetric taps, widened once per call.
+/// What a sum is handed out with: more than the size of any, and a multiple of
+/// whatever it is divided by.
+pub(super) const SUM_RAISE: u64 = 1 << 46;
+
+/// Words of one half.
+const HALF: usize = BLOCK + MOST_REACH + MOST_GROUP;
+
+/// Raised words, even places before odd ones, so that every second word is the next.
+pub(super) struct Halves {
+    words: [u32; 2 * HALF],
+}
+
+/// A tap beside the centre that is not 0.
+#[derive(Clone, Copy)]
+struct Tap {
+    size: u32,
+    /// The places of the first sum's two words.
+    before: usize,
+    after: usize,
+}
+
+/// Symmetric taps, sorted once per call.
 pub(super) struct Taps {
     centre: i64,
-    sides: [i64; MOST_REACH],
+    /// Those above 0, then those below.
+    sides: [Tap; MOST_REACH],
+    above: usize,
+    count: usize,
     reach: usize,
+    /// A sum before its first product.
+    start: u64,
+}
+
+impl Halves {
+    /// Of zeros.
+    pub fn new() -> Self {
+        Halves {
+            words: [RAISE; 2 * HALF],
+        }
+    }
+
+    /// Takes words of at most 2^29.
+    pub fn fill(&mut self, words: &[i32]) {
+        let (even, odd) = self.words.split_at_mut(HALF);
+        let (pairs, last) = words.as_chunks::<2>();
+        for ((even, odd), pair) in even.iter_mut().zip(odd).zip(pairs) {
+            [*even, *odd] = pair.map(raised);
+        }
+        if let [word] = last {
+            self.words[pairs.len()] = raised(*word);
+        }
+    }
+}
+
+/// Where a word lies among the raised ones.
+fn place(at: usize) -> usize {
+    at % 2 * HALF + at / 2
+}
+
+fn raised(word: i32) -> u32 {
+    (word as u32).wrapping_add(RAISE)
 }
 
 impl Taps {
     /// Of taps with the centre first.
     pub fn of(taps: &[i32]) -> Taps {
-        let mut sides = [0; MOST_REACH];
-        for (side, tap) in sides.iter_mut().zip(&taps[1..]) {
-            *side = i64::from(*tap);
+        let reach = taps.len() - 1;
+        let none = Tap {
+            size: 0,
+            before: 0,
+            after: 0,
+        };
+        let mut sides = [none; MOST_REACH];
+        let mut count = 0;
+        let mut above = 0;
+        for sign in [1, -1] {
+            for (k, tap) in taps.iter().enumerate().skip(1) {
+                if tap.signum() == sign {
+                    sides[count] = Tap {
+                        size: tap.unsigned_abs(),
+                        before: place(reach - k),
+                        after: place(reach + k),
+                    };
+                    count += 1;
+                }
+            }
+            if sign == 1 {
+                above = count;
+            }
         }
+        let centre = i64::from(taps[0]);
+        let all = 2 * taps.iter().map(|tap| i64::from(*tap)).sum::<i64>() - centre;
         Taps {
-            centre: i64::from(taps[0]),
+            centre,
             sides,
-            reach: taps.len() - 1,
+            above,
+            count,
+            reach,
+            start: SUM_RAISE.wrapping_add_signed(-all * i64::from(RAISE)),
         }
     }
 
@@ -37,44 +126,52 @@ impl Taps {
     }
 
     /// Fills `out` from the sums around words `reach`, `reach` + 2, .. of
-    /// `words`. The sums of a group share each tap and the loop over the taps,
-    /// which halves the instructions of a sum.
+    /// `words`, each [`SUM_RAISE`] too large. The sums of a group share each tap
+    /// and the loop over the taps.
     #[inline(always)]
-    pub fn halve<T>(&self, words: &[i64], out: &mut [T], finish: impl Fn(i64) -> T) {
+    pub fn halve<T, const GROUP: usize>(
+        &self,
+        words: &Halves,
+        out: &mut [T],
+        finish: impl Fn(u64) -> T,
+    ) {
         let (groups, rest) = out.as_chunks_mut::<GROUP>();
-        let done = 2 * GROUP * groups.len();
+        let done = GROUP * groups.len();
         for (at, group) in groups.iter_mut().enumerate() {
-            *group = self.group(&words[2 * GROUP * at..]).map(&finish);
+            *group = self.group::<GROUP>(words, GROUP * at).map(&finish);
         }
-        for (at, slot) in rest.iter_mut().enumerate() {
-            *slot = finish(self.one(&words[done + 2 * at..]));
+        if !rest.is_empty() {
+            let sums = self.group::<GROUP>(words, done);
+            for (slot, sum) in rest.iter_mut().zip(sums) {
+                *slot = finish(sum);
+            }
         }
     }
 
     #[inline(always)]
-    fn group(&self, words: &[i64]) -> [i64; GROUP] {
-        let words = &words[..2 * self.reach + WINDOW];
-        let sides = &self.sides[..self.reach];
-        let mut sums = [0; GROUP];
-        for (j, sum) in sums.iter_mut().enumerate() {
-            *sum = self.centre * words[self.reach + 2 * j];
+    fn group<const GROUP: usize>(&self, words: &Halves, at: usize) -> [u64; GROUP] {
+        let places = |place: usize| -> &[u32; GROUP] {
+            words.words[place + at..place + at + GROUP]
+                .try_into()
+                .unwrap()
+        };
+        let mut sums = places(place(self.reach)).map(|x| {
+            self.start
+                .wrapping_add((self.centre as u64).wrapping_mul(u64::from(x)))
+        });
+        let (above, below) = self.sides[..self.count].split_at(self.above);
+        for tap in above {
+            let (x, y) = (places(tap.before), places(tap.after));
+            for j in 0..GROUP {
+                sums[j] += u64::from(tap.size) * u64::from(x[j] + y[j]);
+            }
         }
-        let before = words[..self.reach + WINDOW - 1].array_windows::<WINDOW>();
-        let after = words[self.reach + 1..].array_windows::<WINDOW>();
-        for ((tap, x), y) in sides.iter().zip(before.rev()).zip(after) {
-            for (j, sum) in sums.iter_mut().enumerate() {
-                *sum += tap * (x[2 * j] + y[2 * j]);
+        for tap in below {
+            let (x, y) = (places(tap.before), places(tap.after));
+            for j in 0..GROUP {
+                sums[j] -= u64::from(tap.size) * u64::from(x[j] + y[j]);
             }
         }
         sums
-    }
-
-    fn one(&self, words: &[i64]) -> i64 {
-        let (before, after) = words[..2 * self.reach + 1].split_at(self.reach);
-        let mut sum = self.centre * after[0];
-        for ((tap, x), y) in self.sides.iter().zip(before.iter().rev()).zip(&after[1..]) {
-            sum += tap * (x + y);
-        }
-        sum
     }
 }

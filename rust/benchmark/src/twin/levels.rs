@@ -1,8 +1,8 @@
 //! Octave levels: sizes, the builder, and the levels of a store.
 
 use super::book::Book;
-use super::halving::{Taps, MOST_REACH};
-use super::rounding::near;
+use super::halving::{Halves, Taps, BLOCK, MOST_REACH};
+use super::rounding::near_unsigned;
 
 /// The words of a store for S samples and top level T, its header among them; 0
 /// where one of them is outside its range.
@@ -107,30 +107,39 @@ fn write_header(header: &mut [i32], sample_count: usize, top: u32) {
     }
 }
 
-/// Words of the level above that are made at a time.
-const BLOCK: usize = 256;
-
-/// The level above `below`, in blocks: the words that a block reads are widened
+/// The level above `below`, in blocks: the words that a block reads are taken
 /// once, with zeros outside the level, so that the sums need no test.
 fn next_level(taps: &Taps, below: &[i32], next: &mut [i32]) {
     let mut words = [0; 2 * BLOCK + 2 * MOST_REACH];
+    let mut halves = Halves::new();
     let reach = taps.reach();
     for (at, block) in next.chunks_mut(BLOCK).enumerate() {
-        let window = &mut words[..2 * block.len() - 1 + 2 * reach];
-        widen(below, 2 * BLOCK * at, reach, window);
-        taps.halve(window, block, |sum| near(sum, 14) as i32);
+        let start = 2 * BLOCK * at;
+        let count = 2 * block.len() - 1 + 2 * reach;
+        let inner = start
+            .checked_sub(reach)
+            .and_then(|from| below.get(from..from + count));
+        match inner {
+            Some(inner) => halves.fill(inner),
+            None => {
+                let window = &mut words[..count];
+                copy(below, start, reach, window);
+                halves.fill(window);
+            }
+        }
+        // A raised sum has nothing of its own above 32 bits.
+        taps.halve::<_, 16>(&halves, block, |sum| near_unsigned(sum, 14) as i32);
     }
 }
 
 /// Copies the words from `reach` before `start` on, 0 outside the level.
-fn widen(below: &[i32], start: usize, reach: usize, window: &mut [i64]) {
+fn copy(below: &[i32], start: usize, reach: usize, window: &mut [i32]) {
     let before = reach.saturating_sub(start);
     let (zeros, window) = window.split_at_mut(before);
     zeros.fill(0);
     let words = &below[start + before - reach..];
     let inside = words.len().min(window.len());
-    for (slot, word) in window.iter_mut().zip(words) {
-        *slot = i64::from(*word);
-    }
-    window[inside..].fill(0);
+    let (window, zeros) = window.split_at_mut(inside);
+    window.copy_from_slice(&words[..inside]);
+    zeros.fill(0);
 }

@@ -1,8 +1,9 @@
 //! Rounding to the nearest integer, an exact half to the even one.
 
-/// near(a / 2^bits). There is no test, so that loops over it are vectorised.
+/// near(a / 2^bits). There is no test and no sign, so that loops over it are
+/// vectorised.
 #[inline(always)]
-pub(super) fn near(a: i64, bits: u32) -> i64 {
+pub(super) fn near_unsigned(a: u64, bits: u32) -> u64 {
     (a + ((a >> bits) & 1) + (1 << (bits - 1)) - 1) >> bits
 }
 
@@ -37,11 +38,20 @@ pub(super) fn near_by(a: i64, b: i64) -> i64 {
 mod tests {
     use super::*;
 
+    /// Of a number below 0 too, by raising it.
+    fn near_raised(a: i64, bits: u32) -> i64 {
+        let raise = 1 << 40;
+        near_unsigned((a + raise) as u64, bits) as i64 - (raise >> bits)
+    }
+
     #[test]
     fn a_half_goes_to_the_even_number() {
-        let halves = [-5, -3, -1, 1, 3, 5].map(|a| near(a * 8192, 14));
-        assert_eq!(halves, [-2, -2, 0, 0, 2, 2]);
-        assert_eq!(halves, [-5, -3, -1, 1, 3, 5].map(|a| near_by(a * 3, 6)));
+        let halves = [-2, -2, 0, 0, 2, 2];
+        assert_eq!(
+            halves,
+            [-5, -3, -1, 1, 3, 5].map(|a| near_raised(a * 8192, 14))
+        );
+        assert_eq!(halves, [-5, -3, -1, 1, 3, 5].map(|a| near_by(a, 2)));
         let none = |a: i64| near_with_rest(a * 8192, || false, 14);
         assert_eq!(halves, [-5, -3, -1, 1, 3, 5].map(none));
     }
@@ -58,7 +68,7 @@ mod tests {
     fn all_else_goes_to_the_nearest() {
         for a in -100..=100 {
             let exact = |b: f64| (a as f64 / b).round_ties_even() as i64;
-            assert_eq!(near(a, 4), exact(16.0), "{a} / 16");
+            assert_eq!(near_raised(a, 4), exact(16.0), "{a} / 16");
             assert_eq!(near_with_rest(a, || false, 4), exact(16.0), "{a} / 16");
             for b in 1..=9 {
                 assert_eq!(near_by(a, b), exact(b as f64), "{a} / {b}");

@@ -182,11 +182,16 @@ impl Voice {
                 || self.done >= self.count)
     }
 
-    /// Without a branch per word, so that it is done four words at a time.
+    /// One pass over bits, without a branch per word, finds all points below the bound
+    /// right; another looks for points beyond it.
     fn history_wrong(&self) -> bool {
-        self.history.iter().fold(false, |wrong, point| {
-            wrong | (*point > POINT_BOUND) | (*point < -POINT_BOUND)
-        })
+        let bits = self
+            .history
+            .iter()
+            .fold(0, |bits, point| bits | point.wrapping_add(POINT_BOUND));
+        let range = -POINT_BOUND..=POINT_BOUND;
+        bits & !(2 * POINT_BOUND - 1) != 0
+            && !self.history.iter().all(|point| range.contains(point))
     }
 
     /// The plain form: 64-bit fields as two words, low one first.
