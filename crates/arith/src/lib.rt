@@ -41,7 +41,7 @@ fn excess(a: i64, b: i64) -> i64
 
 // The floor of a / b, from the division that truncates, of what is left without its excess: for a constant power of two the compiler makes one shift of it.
 fn floor_shift(a: i64, b: i64) -> i64
-    requires { ⌜ natAbs a + 2 ^ 33 ≤ 2 ^ 63 ⌝ ∗ ⌜ pos 0 <ℤ b ⌝ ∗ ⌜ b ≤ℤ pos (2 ^ 33) ⌝ }
+    requires { ⌜ natAbs a + 2 ^ 34 ≤ 2 ^ 63 ⌝ ∗ ⌜ pos 0 <ℤ b ⌝ ∗ ⌜ b ≤ℤ pos (2 ^ 34) ⌝ }
     ensures { λ r. ⌜ r ≡ floorDiv a (natAbs b) ⌝ }
 {
     (a - excess(a, b)) / b
@@ -51,8 +51,8 @@ fn floor_shift(a: i64, b: i64) -> i64
 // from an odd quotient. That goes to the lower part, which is kept whole: it tells a half from what lies just above one. For constant powers of
 // two the compiler makes a few steps of it, and no branch, so that the time does not go with the number.
 pub fn near_parts(high: i64, low: i64, unit: i64, half: i64) -> i64
-    requires { ⌜ (natAbs high + natAbs low / natAbs unit + 2 ^ 34 ≤ 2 ^ 63) × (natAbs low + 2 ^ 49 ≤ 2 ^ 63) ⌝ }
-    requires { ⌜ pos 0 <ℤ unit ⌝ ∗ ⌜ unit ≤ℤ pos 65536 ⌝ ∗ ⌜ pos 0 <ℤ half ⌝ ∗ ⌜ half ≤ℤ pos (2 ^ 32) ⌝ }
+    requires { ⌜ (natAbs high + natAbs low / natAbs unit + 2 ^ 35 ≤ 2 ^ 63) × (natAbs low + 2 ^ 49 ≤ 2 ^ 63) × (natAbs half * natAbs unit ≤ 2 ^ 48) ⌝ }
+    requires { ⌜ pos 0 <ℤ unit ⌝ ∗ ⌜ unit ≤ℤ pos 65536 ⌝ ∗ ⌜ pos 0 <ℤ half ⌝ ∗ ⌜ half ≤ℤ pos (2 ^ 33) ⌝ }
     ensures { λ r. ⌜ r ≡ near (pos (natAbs unit) *ℤ high +ℤ low) (natAbs unit * (2 * natAbs half)) ⌝ }
 {
     let odd = excess(floor_shift(high + floor_shift(low, unit), 2 * half), 2);
@@ -62,7 +62,7 @@ pub fn near_parts(high: i64, low: i64, unit: i64, half: i64) -> i64
 
 // The same of a number in one part: a / (2 × half).
 pub fn near(a: i64, half: i64) -> i64
-    requires { ⌜ natAbs a ≤ 2 ^ 60 ⌝ ∗ ⌜ pos 0 <ℤ half ⌝ ∗ ⌜ half ≤ℤ pos (2 ^ 32) ⌝ }
+    requires { ⌜ natAbs a ≤ 2 ^ 62 ⌝ ∗ ⌜ pos 0 <ℤ half ⌝ ∗ ⌜ half ≤ℤ pos (2 ^ 33) ⌝ }
     ensures { λ r. ⌜ r ≡ near a (2 * natAbs half) ⌝ }
 {
     near_parts(a, 0, 1, half)

@@ -1,4 +1,3 @@
 pub mod Values
-pub mod Mix
 pub mod Phases
 pub mod Layouts

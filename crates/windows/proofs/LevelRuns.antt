@@ -138,19 +138,23 @@ module _ (b : List ℤ) (a : Accepted b) {table : List ℤ} (t : RowsOf b table)
                 let place : pos (last + N / 2) -ℤ pos (getD firsts k 0 + j) ≡ pos (P k / unit l + N / 2) -ℤ pos j = simp linear (omega (arith, f, before k h)) in
                 p .staged (getD firsts k 0 + j) (omega (arith, f, before k h, reached k h)) ∙ ap (limitedWord words l) place
 
+        offset-is : (k : ℕ) → k < n → getD offsets k 0 ≡ offsetAt b l (P k) * 2 ^ (4 - l)
+        offset-is k h = p .places .offset k h ∙ distance-offset b l low base (P k) (behind k h)
+
         run-value : (k : ℕ) → k < n → runValue window table N rows firsts offsets k ≡ levelValue b words l (P k)
         unfolding runValue mixedValue
         run-value k h =
             levelValue-phases b a words l (P k) low (total-is k (q k) h (omega (arith, phase-below b a l (P k))) (row-is k h))
-            (total-is k (suc (q k)) h (phase-below b a l (P k)) (next-row-is k h)) (p .places .offset k h ∙ distance-offset b l low base (P k) (behind k h))
+            (total-is k (suc (q k)) h (phase-below b a l (P k)) (next-row-is k h)) (offset-is k h)
 
       -- the same of sizes that are the book's
       abbrev pub LevelRun : ℕ → Type 0
       LevelRun taps = RunOf window table taps (last - base + taps) n rows firsts offsets × ((k : ℕ) → k < n → runValue window table taps rows firsts offsets k ≡ levelValue b words l (P k))
+          × ((k : ℕ) → k < n → getD offsets k 0 ≡ offsetAt b l (P k) * 2 ^ (4 - l))
 
       pub level-run : {taps width phases start : ℕ} → taps ≡ N → width ≡ W → phases ≡ sizesOf b .phases → start ≡ base * unit l → Prepared taps width phases start → LevelRun taps
       level-run {taps} {width} {phases} {start} e f g h =
           subst (λ t. Prepared t width phases start → LevelRun t) (sym e)
           (subst (λ w. Prepared N w phases start → LevelRun N) (sym f)
           (subst (λ m. Prepared N W m start → LevelRun N) (sym g)
-          (subst (λ s. Prepared N W (sizesOf b .phases) s → LevelRun N) (sym h) (λ p. (run-of p, run-value p)))))
+          (subst (λ s. Prepared N W (sizesOf b .phases) s → LevelRun N) (sym h) (λ p. (run-of p, run-value p, offset-is p)))))

@@ -1,17 +1,15 @@
 -- The sums of a run: those of the parts of its words make those of the words. Assumes nothing.
 use mathlib.Core.Path.{_≡_, sym, ap, ap₂, _∙_}
 use mathlib.Core.List.{List}
-use Prim.Native.Nat.{ℕ, _+_, _*_, _^_, _≤_, _<_}
+use Prim.Native.Nat.{ℕ, _+_, _*_, _≤_, _<_}
 use native.Mathlib.Nat.{le-trans, mul-le-mul-right}
 use native.Mathlib.Omega.{arith}
 use lib.IntN.{ℤ, pos, natAbs, _+ℤ_, _*ℤ_}
 use lib.ListN.{length, getD}
 use Rattle.arith.specs.Lists.{at}
-use Rattle.arith.specs.Sum.{total}
-use Rattle.arith.proofs.Sum.{total-mono}
 use Rattle.windows.specs.Rows.{rowWidth}
 use Rattle.windows.specs.Parts.{Within, Small, PartsOf, SamplesOf}
-use Rattle.windows.specs.Sums.{dotSum, Summable, Readable, sumHere, sumNext, Mixable, mixedValue, PartSums, partsValue}
+use Rattle.windows.specs.Sums.{dotSum, Summable, Readable, sumHere, sumNext, mixedValue, PartSums, partsValue}
 use Rattle.windows.specs.Runs.{RowFits, RunOf, runValue}
 use Rattle.windows.proofs.Dots.{dotSum-bound, dotSum-rest, dotSum-scaled, dotSum-parts}
 use Rattle.windows.proofs.ImpulseRows.{rowWidth-between, taps-fit}
@@ -56,21 +54,6 @@ module _ {window table : List ℤ} {N reach n : ℕ} {rows firsts offsets : List
   abbrev pub next : ℕ → ℤ
   next k = dotSum window (first k) table (row k + W) N
 
-  dot-small : {r : ℕ} (k : ℕ) → k < n → RowFits table r N W → natAbs (dotSum window (first k) table r N) ≤ 2 ^ 44
-  dot-small {r} k h fits =
-      let size : ℕ → ℕ = λ j. natAbs (at table (r + j)) in
-      let fewer : total N size * 2 ^ 27 ≤ 65536 * 2 ^ 27 = mul-le-mul-right (2 ^ 27) (le-trans (total-mono N W size wide) (fits .size)) in
-      omega (arith, fewer, dotSum-bound window (first k) table r N (2 ^ 27) (λ j m. run .words-small (first k + j) (omega (arith, run .inside k h))))
-
-  -- values may be made of sums that are these
-  mixable : {f g : ℕ → ℤ} → ((k : ℕ) → k < n → f k ≡ base k) → ((k : ℕ) → k < n → g k ≡ next k) → Mixable n f g offsets
-  mixable e d = record {
-    offsets-room = run .offsets-room;
-    base-size = λ k h. rw (e k h) (dot-small k h (run .here k h));
-    next-size = λ k h. rw (d k h) (dot-small k h (run .next k h));
-    offset-low = run .offset-low;
-  }
-
   same-value : {f g : ℕ → ℤ} → ((k : ℕ) → k < n → f k ≡ base k) → ((k : ℕ) → k < n → g k ≡ next k)
       → (k : ℕ) → k < n → mixedValue (f k) (g k) (getD offsets k 0) ≡ runValue window table N rows firsts offsets k
   unfolding runValue
@@ -90,9 +73,6 @@ module _ {window table : List ℤ} {N reach n : ℕ} {rows firsts offsets : List
 
     samples-next : (k : ℕ) → k < n → sumNext y table W rows firsts k *ℤ pos 256 ≡ next k
     samples-next k h = scaled y (λ j m. s .word j m .1) k h (run .next k h)
-
-    pub samples-mixable : Mixable n (λ k. sumHere x table W rows firsts k *ℤ pos 256) (λ k. sumNext y table W rows firsts k *ℤ pos 256) offsets
-    samples-mixable = mixable samples-here samples-next
 
     pub samples-value : (k : ℕ) → k < n
         → mixedValue (sumHere x table W rows firsts k *ℤ pos 256) (sumNext y table W rows firsts k *ℤ pos 256) (getD offsets k 0) ≡ runValue window table N rows firsts offsets k

@@ -34,14 +34,7 @@ sumHere x table W rows firsts k = dotSum x (getD firsts k 0) table (getD rows k 
 abbrev pub sumNext : List ℤ → List ℤ → ℕ → List ℕ → List ℕ → ℕ → ℤ
 sumNext y table W rows firsts k = dotSum y (getD firsts k 0) table (getD rows k 0 + W) W
 
--- n sums over a phase and over the next one, and offsets in 2^-32, of which values may be made
-pub record Mixable (n : ℕ) (base next : ℕ → ℤ) (offsets : List ℕ) : Type 0 where
-  pub offsets-room : n ≤ length offsets
-  pub base-size : (k : ℕ) → k < n → natAbs (base k) ≤ 2 ^ 44
-  pub next-size : (k : ℕ) → k < n → natAbs (next k) ≤ 2 ^ 44
-  pub offset-low : (k : ℕ) → k < n → getD offsets k 0 < 2 ^ 32
-
--- the value of two such sums
+-- the value of sums over a phase and over the next one, and of an offset in 2^-32
 unfoldable pub mixedValue : ℤ → ℤ → ℕ → ℤ
 mixedValue base next e = near (pos (2 ^ 32) *ℤ base +ℤ pos e *ℤ (next -ℤ base)) (16384 * 2 ^ 32)
 

@@ -7,9 +7,9 @@ ghost use Rattle.windows.specs.Places.{PlacesOf};
 // The places of a run's values: the window begins at position `start` and ends `spread` words on, `up` shifts a distance to 2^-32 words, and rows are
 // `width` words wide.
 pub(crate) fn places(
-    rows: &mut [usize],
-    firsts: &mut [usize],
-    offsets: &mut [u64],
+    rows: &mut [u32],
+    firsts: &mut [u32],
+    offsets: &mut [u32],
     positions: &[u64],
     start: u64,
     up: u32,
@@ -25,9 +25,9 @@ pub(crate) fn places(
     while k < positions.len() {
         let distance = (positions[k] - start) << up;
         let scaled = distance % 4294967296 * (phases as u64 % 4294967296);
-        rows[k] = (scaled / 4294967296) as usize * width;
-        firsts[k] = spread - (distance / 4294967296) as usize;
-        offsets[k] = scaled % 4294967296;
+        rows[k] = (scaled / 4294967296) as u32 * width as u32;
+        firsts[k] = spread as u32 - (distance / 4294967296) as u32;
+        offsets[k] = (scaled % 4294967296) as u32;
         k += 1;
     }
 }

@@ -2,8 +2,8 @@
 
 ghost use mathlib.Core.Bool.{true, false};
 ghost use mathlib.Core.Path.{_≡_};
-ghost use Prim.Native.Nat.{suc, _-_, _≤_};
-ghost use lib.ListN.{length};
+ghost use Prim.Native.Nat.{ℕ, suc, _-_, _%_, _≤_, _<_};
+ghost use lib.ListN.{length, getD};
 ghost use Rattle.arith.specs.Lists.{tabulate, overwrite};
 ghost use Rattle.windows.specs.Runs.{RunOf, runValue};
 use crate::parts::samples_of;
@@ -22,9 +22,9 @@ pub(crate) fn part_run(
     reach: usize,
     table: &[i16],
     taps: usize,
-    rows: &[usize],
-    firsts: &[usize],
-    offsets: &[u64],
+    rows: &[u32],
+    firsts: &[u32],
+    offsets: &[u32],
 )
     requires { ⌜ (count ≤ end) × (end ≤ length (now line)) × (count ≤ 128) × RunOf (now window) (now table) taps reach count (now rows) (now firsts) (now offsets) ⌝ }
     ensures { λ _. ⌜ now (line .exit) ≡ overwrite (now (line .entry)) (end - count) (tabulate count (λ j. runValue (now (window .entry)) (now (table .entry)) taps (now (rows .entry)) (now (firsts .entry)) (now (offsets .entry)) (count - suc j))) ⌝ }
@@ -62,7 +62,7 @@ pub(crate) fn part_run(
     );
 }
 
-// From words that are samples × 256, where all of them are, as the builder writes level 0: whether they are.
+// From words that are samples × 256, where all of them are, as the builder writes level 0: whether they are. The offsets of level 0 are multiples of 16.
 pub(crate) fn sample_run(
     level: u32,
     line: &mut [i64],
@@ -72,11 +72,11 @@ pub(crate) fn sample_run(
     reach: usize,
     table: &[i16],
     taps: usize,
-    rows: &[usize],
-    firsts: &[usize],
-    offsets: &[u64],
+    rows: &[u32],
+    firsts: &[u32],
+    offsets: &[u32],
 ) -> bool
-    requires { ⌜ (count ≤ end) × (end ≤ length (now line)) × (count ≤ 128) × RunOf (now window) (now table) taps reach count (now rows) (now firsts) (now offsets) ⌝ }
+    requires { ⌜ (count ≤ end) × (end ≤ length (now line)) × (count ≤ 128) × RunOf (now window) (now table) taps reach count (now rows) (now firsts) (now offsets) × (level ≡ 0 → (k : ℕ) → k < count → getD (now offsets) k 0 % 16 ≡ 0) ⌝ }
     ensures { λ r. ⌜ (r ≡ true → now (line .exit) ≡ overwrite (now (line .entry)) (end - count) (tabulate count (λ j. runValue (now (window .entry)) (now (table .entry)) taps (now (rows .entry)) (now (firsts .entry)) (now (offsets .entry)) (count - suc j)))) × (r ≡ false → now (line .exit) ≡ now (line .entry)) ⌝ }
 {
     if level != 0 {

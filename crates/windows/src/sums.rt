@@ -2,13 +2,13 @@
 // the same numbers: only then does the compiler take eight products at a time.
 
 ghost use mathlib.Core.Path.{_≡_};
-ghost use Prim.Native.Nat.{ℕ, suc, _-_, _^_, _≤_, _<_};
-ghost use lib.IntN.{pos, natAbs, _*ℤ_};
+ghost use Prim.Native.Nat.{ℕ, suc, _-_, _%_, _^_, _≤_, _<_};
+ghost use lib.IntN.{pos, _*ℤ_};
 ghost use lib.ListN.{length, getD};
 ghost use Rattle.arith.specs.Lists.{at, tabulate, overwrite};
-ghost use Rattle.windows.specs.Sums.{dotSum, Summable, Readable, sumHere, sumNext, Mixable, mixedValue, PartSums, partsValue};
+ghost use Rattle.windows.specs.Sums.{dotSum, Summable, Readable, sumHere, sumNext, mixedValue, PartSums, partsValue};
+use arith::near;
 use arith::near_parts;
-use values::value::mixed;
 
 // The sum of `width` words from place `first` on times coefficients from place `row` on.
 fn dot(words: &[i16], first: usize, table: &[i16], row: usize, width: usize) -> i32
@@ -24,19 +24,17 @@ fn dot(words: &[i16], first: usize, table: &[i16], row: usize, width: usize) -> 
     sum
 }
 
-// The sum over words that are samples × 256.
-fn scaled(samples: i32) -> i64
-    ensures { λ r. ⌜ r ≡ samples *ℤ pos 256 ⌝ }
+// The value of words that are samples × 256, from the sums of the samples over a phase and over the next one. Positions of level 0 are 2^-28
+// words apart, so that of their offsets, which are in 2^-32, only the upper 28 bits count: near((2^28 × base + offset / 16 × (next − base)) / 2^34).
+fn sample_value(base: i32, next: i32, offset: u64) -> i64
+    requires { ⌜ (offset < 2 ^ 32) × (offset % 16 ≡ 0) ⌝ }
+    ensures { λ r. ⌜ r ≡ mixedValue (base *ℤ pos 256) (next *ℤ pos 256) offset ⌝ }
 {
-    samples as i64 * 256
-}
-
-// The value of the sums over a phase and over the next one.
-fn value_of(base: i64, next: i64, offset: u64) -> i64
-    requires { ⌜ (natAbs base ≤ 2 ^ 44) × (natAbs next ≤ 2 ^ 44) × (offset < 2 ^ 32) ⌝ }
-    ensures { λ r. ⌜ r ≡ mixedValue base next offset ⌝ }
-{
-    mixed(base, next - base, offset)
+    let b = base as i64;
+    near(
+        b * 268435456 + (offset / 16) as i64 * (next as i64 - b),
+        8589934592,
+    )
 }
 
 // The value of words in two parts: of the sums of the high and the low parts over a phase, and of those over the next one. It is
@@ -64,8 +62,8 @@ fn first_sums_by(
     x: &[i16],
     y: &[i16],
     table: &[i16],
-    rows: &[usize],
-    firsts: &[usize],
+    rows: &[u32],
+    firsts: &[u32],
     width: usize,
 )
     requires { ⌜ (count ≤ length (now one)) × (count ≤ length (now two)) × Readable (now x) (now y) (now table) width count (now rows) (now firsts) ⌝ }
@@ -73,8 +71,8 @@ fn first_sums_by(
 {
     let mut k = 0;
     while k < count {
-        let first = firsts[k];
-        let row = rows[k];
+        let first = firsts[k] as usize;
+        let row = rows[k] as usize;
         one[k] = dot(x, first, table, row, width);
         two[k] = dot(y, first, table, row + width, width);
         k += 1;
@@ -89,8 +87,8 @@ pub(crate) fn first_sums(
     x: &[i16],
     y: &[i16],
     table: &[i16],
-    rows: &[usize],
-    firsts: &[usize],
+    rows: &[u32],
+    firsts: &[u32],
     width: usize,
 )
     requires { ⌜ (count ≤ length (now one)) × (count ≤ length (now two)) × Readable (now x) (now y) (now table) width count (now rows) (now firsts) ⌝ }
@@ -115,9 +113,9 @@ fn part_values_by(
     low: &[i16],
     high: &[i16],
     table: &[i16],
-    rows: &[usize],
-    firsts: &[usize],
-    offsets: &[u64],
+    rows: &[u32],
+    firsts: &[u32],
+    offsets: &[u32],
     width: usize,
 )
     requires { ⌜ (count ≤ end) × (end ≤ length (now line)) × (count ≤ length (now one)) × (count ≤ length (now two)) × Readable (now low) (now high) (now table) width count (now rows) (now firsts) ⌝ }
@@ -126,11 +124,11 @@ fn part_values_by(
 {
     let mut k = 0;
     while k < count {
-        let first = firsts[k];
-        let row = rows[k];
+        let first = firsts[k] as usize;
+        let row = rows[k] as usize;
         let base = dot(low, first, table, row, width);
         let next = dot(high, first, table, row + width, width);
-        let value = part_value(one[k], base, next, two[k], offsets[k]);
+        let value = part_value(one[k], base, next, two[k], offsets[k] as u64);
         line[end - 1 - k] = value;
         k += 1;
     }
@@ -144,22 +142,22 @@ fn sample_values_by(
     x: &[i16],
     y: &[i16],
     table: &[i16],
-    rows: &[usize],
-    firsts: &[usize],
-    offsets: &[u64],
+    rows: &[u32],
+    firsts: &[u32],
+    offsets: &[u32],
     width: usize,
 )
     requires { ⌜ (count ≤ end) × (end ≤ length (now line)) × Readable (now x) (now y) (now table) width count (now rows) (now firsts) ⌝ }
-    requires { ⌜ Mixable count (λ k. sumHere (now x) (now table) width (now rows) (now firsts) k *ℤ pos 256) (λ k. sumNext (now y) (now table) width (now rows) (now firsts) k *ℤ pos 256) (now offsets) ⌝ }
+    requires { ⌜ (count ≤ length (now offsets)) × ((k : ℕ) → k < count → (getD (now offsets) k 0 < 2 ^ 32) × (getD (now offsets) k 0 % 16 ≡ 0)) ⌝ }
     ensures { λ _. ⌜ now (line .exit) ≡ overwrite (now (line .entry)) (end - count) (tabulate count (λ j. mixedValue (sumHere (now (x .entry)) (now (table .entry)) width (now (rows .entry)) (now (firsts .entry)) (count - suc j) *ℤ pos 256) (sumNext (now (y .entry)) (now (table .entry)) width (now (rows .entry)) (now (firsts .entry)) (count - suc j) *ℤ pos 256) (getD (now (offsets .entry)) (count - suc j) 0))) ⌝ }
 {
     let mut k = 0;
     while k < count {
-        let first = firsts[k];
-        let row = rows[k];
-        let base = scaled(dot(x, first, table, row, width));
-        let next = scaled(dot(y, first, table, row + width, width));
-        let value = value_of(base, next, offsets[k]);
+        let first = firsts[k] as usize;
+        let row = rows[k] as usize;
+        let base = dot(x, first, table, row, width);
+        let next = dot(y, first, table, row + width, width);
+        let value = sample_value(base, next, offsets[k] as u64);
         line[end - 1 - k] = value;
         k += 1;
     }
@@ -175,9 +173,9 @@ pub(crate) fn part_values(
     low: &[i16],
     high: &[i16],
     table: &[i16],
-    rows: &[usize],
-    firsts: &[usize],
-    offsets: &[u64],
+    rows: &[u32],
+    firsts: &[u32],
+    offsets: &[u32],
     width: usize,
 )
     requires { ⌜ (count ≤ end) × (end ≤ length (now line)) × (count ≤ length (now one)) × (count ≤ length (now two)) × Readable (now low) (now high) (now table) width count (now rows) (now firsts) ⌝ }
@@ -252,13 +250,13 @@ pub(crate) fn sample_values(
     x: &[i16],
     y: &[i16],
     table: &[i16],
-    rows: &[usize],
-    firsts: &[usize],
-    offsets: &[u64],
+    rows: &[u32],
+    firsts: &[u32],
+    offsets: &[u32],
     width: usize,
 )
     requires { ⌜ (count ≤ end) × (end ≤ length (now line)) × Readable (now x) (now y) (now table) width count (now rows) (now firsts) ⌝ }
-    requires { ⌜ Mixable count (λ k. sumHere (now x) (now table) width (now rows) (now firsts) k *ℤ pos 256) (λ k. sumNext (now y) (now table) width (now rows) (now firsts) k *ℤ pos 256) (now offsets) ⌝ }
+    requires { ⌜ (count ≤ length (now offsets)) × ((k : ℕ) → k < count → (getD (now offsets) k 0 < 2 ^ 32) × (getD (now offsets) k 0 % 16 ≡ 0)) ⌝ }
     ensures { λ _. ⌜ now (line .exit) ≡ overwrite (now (line .entry)) (end - count) (tabulate count (λ j. mixedValue (sumHere (now (x .entry)) (now (table .entry)) width (now (rows .entry)) (now (firsts .entry)) (count - suc j) *ℤ pos 256) (sumNext (now (y .entry)) (now (table .entry)) width (now (rows .entry)) (now (firsts .entry)) (count - suc j) *ℤ pos 256) (getD (now (offsets .entry)) (count - suc j) 0))) ⌝ }
 {
     match width {

@@ -40,9 +40,9 @@ fn level_values(
     let base = positions[0] >> shift;
     let last = positions[count - 1] >> shift;
     let spread = (last - base) as usize;
-    let mut rows = [0usize; 128];
-    let mut firsts = [0usize; 128];
-    let mut offsets = [0u64; 128];
+    let mut rows = [0u32; 128];
+    let mut firsts = [0u32; 128];
+    let mut offsets = [0u32; 128];
     places(
         &mut rows,
         &mut firsts,

@@ -11,7 +11,7 @@ use mir.Val.{SFits}
 use Rattle.arith.specs.Floor.{floorDiv}
 use Rattle.arith.proofs.Bits.{reads}
 use Rattle.arith.proofs.Linear.{linear, signed, abs-*}
-use Rattle.arith.proofs.Integers.{<ℤ-≤ℤ, abs-≤, abs-above, abs-triangle, abs-*-≤, abs-fits}
+use Rattle.arith.proofs.Integers.{<ℤ-≤ℤ, abs-≤, abs-above, abs-triangle, abs-fits}
 use Rattle.arith.proofs.Rounding.{oddOf, odd-small, part-small, raised-small, near-parts}
 use Rattle.arith.proofs.near_parts.Statement.{statement}
 use Rattle.arith.proofs.near_parts.Tie as tie
@@ -41,7 +41,7 @@ module _ (s : tie.Start) where
   h-some : 0 < h
   h-some = simp linear (omega signed)
 
-  h-high : h ≤ 2 ^ 32
+  h-high : h ≤ 2 ^ 33
   h-high = abs-≤ half (s .pre .1 .1 .1 .1, simp linear (omega signed))
 
   twice-fits : SFits w64 (pos 2 *ℤ half)
@@ -51,7 +51,7 @@ module _ (s : tie.Start) where
   product-is = ap₂ (λ x y. x *ℤ y) (abs-above (<ℤ-≤ℤ (s .pre .1 .1 .1 .0))) (abs-above (<ℤ-≤ℤ (s .pre .1 .0)))
 
   product-small : natAbs (half *ℤ unit) ≤ 2 ^ 48
-  product-small = omega (arith, abs-*-≤ half unit h-high (abs-≤ unit {n = 65536} (s .pre .1 .1 .0, simp linear (omega signed))))
+  product-small = omega (arith, ap natAbs product-is, s .pre .0 .2)
 
   product-fits : SFits w64 (half *ℤ unit)
   product-fits = abs-fits w64 (half *ℤ unit) (omega (arith, product-small))
@@ -75,7 +75,7 @@ module _ (c : tie.After-floor-shift) where
   part-is : part ≡ floorDiv (low (c .before)) (u (c .before))
   part-is = simp (reads, c .before .fits .low, c .before .fits .unit) at (c .floor-shift .ensures)
 
-  whole-small : natAbs (high (c .before) +ℤ part) + 2 ^ 33 ≤ 2 ^ 63
+  whole-small : natAbs (high (c .before) +ℤ part) + 2 ^ 34 ≤ 2 ^ 63
   whole-small =
       let s = c .before in
       let small : natAbs part ≤ natAbs (low s) / u s + 1 = rw part-is (part-small (low s) (u-some s)) in
@@ -141,7 +141,7 @@ module _ (c : tie.After-excess) where
   added-fits : SFits w64 (low start +ℤ nearly)
   added-fits = simp linear (omega (signed, simp linear at (product-small start), simp linear at (start .pre .0 .1)))
 
-  small : natAbs raised + 2 ^ 33 ≤ 2 ^ 63
+  small : natAbs raised + 2 ^ 34 ≤ 2 ^ 63
   small = simp linear (omega (signed, simp linear at (product-small start), simp linear at (start .pre .0 .1), simp linear at odd-range))
 
   raised-fits : SFits w64 raised
@@ -186,7 +186,7 @@ module _ (c : tie.After-floor-shift3) where
       simp (reads, s .fits .low, s .fits .half, s .fits .unit, product-fits s, nearly-fits e, added-fits e, odd-fits e, raised-fits e) at (c .floor-shift3 .ensures) in
       quotient ∙ ap (λ x. floorDiv x (u s)) (raised-is e)
 
-  sum-small : natAbs (carried +ℤ high (start e)) + 2 ^ 33 ≤ 2 ^ 63
+  sum-small : natAbs (carried +ℤ high (start e)) + 2 ^ 34 ≤ 2 ^ 63
   sum-small =
       let s = start e in
       let part : natAbs carried ≤ natAbs (low s) / u s + 1 + h s = subst (λ x. natAbs x ≤ natAbs (low s) / u s + 1 + h s) (sym carried-is) (raised-small (low s) (u-some s) (h s) (n s)) in

@@ -86,6 +86,12 @@ shl-distance c = omega (arith, s c .pre .0)
 mul-scaled : tie.Need-mul-scaled Inv-loop μ-loop
 mul-scaled c = rw (shifted c, phases-are c) (omega (arith, scaled-low c))
 
+cast-rows : tie.Need-cast-rows Inv-loop μ-loop
+cast-rows c = rw (shifted c, phases-are c) (omega (arith, scaled-low c))
+
+cast-rows-2 : tie.Need-cast-rows-2 Inv-loop μ-loop
+cast-rows-2 c = omega (arith, s c .pre .0)
+
 mul-rows : tie.Need-mul-rows Inv-loop μ-loop
 mul-rows c = rw (shifted c, phases-are c) (omega (arith, row-low c))
 
@@ -95,6 +101,12 @@ mul-rows-2 c = omega arith
 slice-write-rows : tie.Need-slice-write-rows Inv-loop μ-loop
 slice-write-rows c = omega (arith, s c .pre .0, t c .loop .inv .1)
 
+cast-firsts : tie.Need-cast-firsts Inv-loop μ-loop
+cast-firsts c = omega (arith, s c .pre .0)
+
+cast-firsts-2 : tie.Need-cast-firsts-2 Inv-loop μ-loop
+cast-firsts-2 c = rw (shifted c) (omega (arith, near-by c, s c .pre .0))
+
 sub-firsts : tie.Need-sub-firsts Inv-loop μ-loop
 sub-firsts c = rw (shifted c) (near-by c .1)
 
@@ -103,6 +115,9 @@ mul-firsts c = omega arith
 
 slice-write-firsts : tie.Need-slice-write-firsts Inv-loop μ-loop
 slice-write-firsts c = omega (arith, s c .pre .0, t c .loop .inv .1)
+
+cast-offsets : tie.Need-cast-offsets Inv-loop μ-loop
+cast-offsets c = omega arith
 
 mul-offsets : tie.Need-mul-offsets Inv-loop μ-loop
 mul-offsets c = omega arith
@@ -147,12 +162,17 @@ places-spec =
     sub-distance
     shl-distance
     mul-scaled
+    cast-rows
+    cast-rows-2
     mul-rows
     mul-rows-2
     slice-write-rows
+    cast-firsts
+    cast-firsts-2
     sub-firsts
     mul-firsts
     slice-write-firsts
+    cast-offsets
     mul-offsets
     slice-write-offsets
     add-k

@@ -11,7 +11,7 @@ use Rattle.windows.specs.Rows.{rowWidth}
 use Rattle.windows.specs.Parts.{SamplesOf}
 use Rattle.windows.specs.Sums.{Readable}
 use Rattle.windows.specs.Runs.{RunOf}
-use Rattle.windows.proofs.RunSums.{readable, samples-mixable, samples-value}
+use Rattle.windows.proofs.RunSums.{readable, samples-value}
 use borrow.Author.Needs.{needs}
 use Rattle.windows.proofs.runs.sample_run.Statement.{statement}
 use Rattle.windows.proofs.runs.sample_run.Tie as tie
@@ -33,6 +33,9 @@ module _ (c : tie.After-row-width) where
 
   samples : SamplesOf (s .args .window .now) (s .args .reach) (f .samples-of .last .0) (f .samples-of .last .1 .0)
   samples = f .samples-of .ensures (c .before .if2 .taken)
+
+  level-is : s .args .level ≡ 0
+  level-is = omega arith
 
   abbrev width : ℕ
   width = c .row-width .result
@@ -72,7 +75,7 @@ slice-aggregate-sample-values-2 c = search needs
 sample-values-requires : tie.Need-sample-values-requires
 sample-values-requires c κs =
     let w = c .before .before .before in
-    ((s w .pre .0, s w .pre .1, twice w), rw (width-is w) (samples-mixable (run w) (samples w)))
+    ((s w .pre .0, s w .pre .1, twice w), (run w .offsets-room, λ k h. (run w .offset-low k h, s w .pre .4 (level-is w) k h)))
 
 same-length : tie.Need-same-length
 same-length c = search needs

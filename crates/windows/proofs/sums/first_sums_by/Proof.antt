@@ -50,11 +50,17 @@ mul-first c = omega arith
 shared-slice-read-first : tie.Need-shared-slice-read-first Inv-loop μ-loop
 shared-slice-read-first c = omega (arith, start (c .before) .pre .2 .firsts-room)
 
+cast-first : tie.Need-cast-first Inv-loop μ-loop
+cast-first c = omega (arith, start (c .before) .pre .2 .here (c .before .before .loop .k) (omega arith) .words-room)
+
 mul-row : tie.Need-mul-row Inv-loop μ-loop
 mul-row c = omega arith
 
 shared-slice-read-row : tie.Need-shared-slice-read-row Inv-loop μ-loop
 shared-slice-read-row c = omega (arith, start (c .before .before) .pre .2 .rows-room)
+
+cast-row : tie.Need-cast-row Inv-loop μ-loop
+cast-row c = omega (arith, start (c .before .before) .pre .2 .here (c .before .before .before .loop .k) (omega arith) .table-room)
 
 dot-requires : tie.Need-dot-requires Inv-loop μ-loop
 dot-requires c κs = start (c .before .before) .pre .2 .here (c .before .before .before .loop .k) (omega arith)
@@ -71,8 +77,8 @@ add-dot c = omega (arith, start (c .before .before .before) .pre .2 .next (c .be
 dot-requires-2 : tie.Need-dot-requires-2 Inv-loop μ-loop
 dot-requires-2 c κs = start (c .before .before .before) .pre .2 .next (c .before .before .before .before .loop .k) (omega arith)
 
-mul-t14 : tie.Need-mul-t14 Inv-loop μ-loop
-mul-t14 c = omega arith
+mul-t20 : tie.Need-mul-t20 Inv-loop μ-loop
+mul-t20 c = omega arith
 
 slice-set-from-two-2 : tie.Need-slice-set-from-two-2 Inv-loop μ-loop
 slice-set-from-two-2 c = omega (arith, s c .pre .1, t c .loop .inv .1)
@@ -113,14 +119,16 @@ first-sums-by-spec =
     loop-holds
     mul-first
     shared-slice-read-first
+    cast-first
     mul-row
     shared-slice-read-row
+    cast-row
     dot-requires
     mul-two
     slice-set-from-two
     add-dot
     dot-requires-2
-    mul-t14
+    mul-t20
     slice-set-from-two-2
     add-k
     loop-less

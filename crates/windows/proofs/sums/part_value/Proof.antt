@@ -150,7 +150,7 @@ mul-near-parts-4 c = simp (reads, e-low c, c .fits .low1, c .fits .low2, low-ste
 near-parts-requires : tie.Need-near-parts-requires
 near-parts-requires c κs =
     simp (reads, e-low c, c .fits .high1, c .fits .low1, c .fits .high2, c .fits .low2, high-fits c, low-fits c, both-fits c, high-step-fits c, low-step-fits c, product-fits c, head-fits c, tail-fits c)
-    ((omega (arith, head-size c, tail-size c, div-add-mod (natAbs (tail c)) 16384), tail-size c), (ltZ-yes tt, (leZ-yes tt, (ltZ-yes tt, leZ-yes tt))))
+    ((omega (arith, head-size c, tail-size c, div-add-mod (natAbs (tail c)) 16384), tail-size c, omega arith), (ltZ-yes tt, (leZ-yes tt, (ltZ-yes tt, leZ-yes tt))))
 
 returns : tie.Need-returns
 unfolding partsValue mixedValue

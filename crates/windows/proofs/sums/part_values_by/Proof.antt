@@ -78,11 +78,17 @@ mul-first c = omega arith
 shared-slice-read-first : tie.Need-shared-slice-read-first Inv-loop μ-loop
 shared-slice-read-first c = omega (arith, from (c .before .before) .pre .0 .4 .firsts-room)
 
+cast-first : tie.Need-cast-first Inv-loop μ-loop
+cast-first c = omega (arith, from (c .before .before) .pre .0 .4 .here (c .before .before .loop .k) (omega arith) .words-room)
+
 mul-row : tie.Need-mul-row Inv-loop μ-loop
 mul-row c = omega arith
 
 shared-slice-read-row : tie.Need-shared-slice-read-row Inv-loop μ-loop
 shared-slice-read-row c = omega (arith, from (c .before .before .before) .pre .0 .4 .rows-room)
+
+cast-row : tie.Need-cast-row Inv-loop μ-loop
+cast-row c = omega (arith, from (c .before .before .before) .pre .0 .4 .here (c .before .before .before .loop .k) (omega arith) .table-room)
 
 dot-requires : tie.Need-dot-requires Inv-loop μ-loop
 dot-requires c κs = from (c .before .before .before) .pre .0 .4 .here (c .before .before .before .loop .k) (omega arith)
@@ -110,6 +116,9 @@ mul-part-value-3 c = omega arith
 
 shared-slice-read-part-value : tie.Need-shared-slice-read-part-value Inv-loop μ-loop
 shared-slice-read-part-value c = omega (arith, from (c .before .before .before .before .before .before .before .before) .pre .1 .0)
+
+cast-part-value : tie.Need-cast-part-value Inv-loop μ-loop
+cast-part-value c = let b = c .before in omega (arith, s b .pre .1 .1 (k b) (omega arith) .offset-low)
 
 part-value-requires : tie.Need-part-value-requires Inv-loop μ-loop
 part-value-requires c κs =
@@ -165,8 +174,10 @@ part-values-by-spec =
     loop-holds
     mul-first
     shared-slice-read-first
+    cast-first
     mul-row
     shared-slice-read-row
+    cast-row
     dot-requires
     add-dot
     dot-requires-2
@@ -176,6 +187,7 @@ part-values-by-spec =
     shared-slice-copy-out-part-value-2
     mul-part-value-3
     shared-slice-read-part-value
+    cast-part-value
     part-value-requires
     sub-value
     sub-value-2

@@ -9,19 +9,19 @@ sample-values-by-requires : tie.Need-sample-values-by-requires
 sample-values-by-requires c κs =
     let s = c .before .before .before .before .before in
     let e : s .args .width ≡ 8 = omega arith in
-    (rw e at (s .pre .0), rw e at (s .pre .1))
+    (rw e at (s .pre .0), s .pre .1)
 
 sample-values-by-requires-2 : tie.Need-sample-values-by-requires-2
 sample-values-by-requires-2 c κs =
     let s = c .before .before .before .before .before in
     let e : s .args .width ≡ 16 = omega arith in
-    (rw e at (s .pre .0), rw e at (s .pre .1))
+    (rw e at (s .pre .0), s .pre .1)
 
 sample-values-by-requires-3 : tie.Need-sample-values-by-requires-3
 sample-values-by-requires-3 c κs =
     let s = c .before .before .before .before .before in
     let e : s .args .width ≡ 32 = omega arith in
-    (rw e at (s .pre .0), rw e at (s .pre .1))
+    (rw e at (s .pre .0), s .pre .1)
 
 sample-values-by-requires-4 : tie.Need-sample-values-by-requires-4
 sample-values-by-requires-4 c κs = search needs

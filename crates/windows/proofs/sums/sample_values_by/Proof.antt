@@ -32,10 +32,10 @@ from t = t .before .before .before .before
 abbrev values : tie.Start Inv-loop μ-loop → ℕ → ℤ
 values s = valueAt (s .args .x .now) (s .args .y .now) (s .args .table .now) (s .args .width) (s .args .rows .now) (s .args .firsts .now) (s .args .offsets .now)
 
--- in a turn, when both sums are scaled
-module _ (c : tie.After-scaled2 Inv-loop μ-loop) where
+-- in a turn, when both sums are there
+module _ (c : tie.After-dot2 Inv-loop μ-loop) where
   abbrev t : tie.At-loop Inv-loop μ-loop
-  t = c .before .before .before .before .before .before .before
+  t = c .before .before .before .before .before
 
   abbrev s : tie.Start Inv-loop μ-loop
   s = from t
@@ -43,21 +43,11 @@ module _ (c : tie.After-scaled2 Inv-loop μ-loop) where
   abbrev k : ℕ
   k = t .loop .k
 
-  base-is : c .before .before .scaled .result ≡ sumHere (s .args .x .now) (s .args .table .now) (s .args .width) (s .args .rows .now) (s .args .firsts .now) k *ℤ pos 256
-  base-is =
-      let fits : SFits w32 (c .before .before .before .dot .result) = record { sfits = c .before .before .before .dot .ok } in
-      (simp (reads, fits) at (c .before .before .scaled .ensures)) ∙ ap (λ z. z *ℤ pos 256) (c .before .before .before .dot .ensures)
+  base-fits : SFits w32 (c .before .dot .result)
+  base-fits = record { sfits = c .before .dot .ok }
 
-  next-is : c .scaled2 .result ≡ sumNext (s .args .y .now) (s .args .table .now) (s .args .width) (s .args .rows .now) (s .args .firsts .now) k *ℤ pos 256
-  next-is =
-      let fits : SFits w32 (c .before .dot2 .result) = record { sfits = c .before .dot2 .ok } in
-      (simp (reads, fits) at (c .scaled2 .ensures)) ∙ ap (λ z. z *ℤ pos 256) (c .before .dot2 .ensures)
-
-  base-fits : SFits w64 (c .before .before .scaled .result)
-  base-fits = record { sfits = c .before .before .scaled .ok }
-
-  next-fits : SFits w64 (c .scaled2 .result)
-  next-fits = record { sfits = c .scaled2 .ok }
+  next-fits : SFits w32 (c .dot2 .result)
+  next-fits = record { sfits = c .dot2 .ok }
 
 loop-holds : tie.Need-loop-holds Inv-loop μ-loop
 loop-holds c =
@@ -70,50 +60,50 @@ mul-first c = omega arith
 shared-slice-read-first : tie.Need-shared-slice-read-first Inv-loop μ-loop
 shared-slice-read-first c = omega (arith, from (c .before .before) .pre .0 .2 .firsts-room)
 
+cast-first : tie.Need-cast-first Inv-loop μ-loop
+cast-first c = omega (arith, from (c .before .before) .pre .0 .2 .here (c .before .before .loop .k) (omega arith) .words-room)
+
 mul-row : tie.Need-mul-row Inv-loop μ-loop
 mul-row c = omega arith
 
 shared-slice-read-row : tie.Need-shared-slice-read-row Inv-loop μ-loop
 shared-slice-read-row c = omega (arith, from (c .before .before .before) .pre .0 .2 .rows-room)
 
+cast-row : tie.Need-cast-row Inv-loop μ-loop
+cast-row c = omega (arith, from (c .before .before .before) .pre .0 .2 .here (c .before .before .before .loop .k) (omega arith) .table-room)
+
 dot-requires : tie.Need-dot-requires Inv-loop μ-loop
 dot-requires c κs = from (c .before .before .before) .pre .0 .2 .here (c .before .before .before .loop .k) (omega arith)
 
-scaled-requires : tie.Need-scaled-requires Inv-loop μ-loop
-scaled-requires c κs = tt
-
 add-dot : tie.Need-add-dot Inv-loop μ-loop
-add-dot c = omega (arith, from (c .before .before .before .before .before) .pre .0 .2 .next (c .before .before .before .before .before .loop .k) (omega arith) .table-room)
+add-dot c = omega (arith, from (c .before .before .before .before) .pre .0 .2 .next (c .before .before .before .before .loop .k) (omega arith) .table-room)
 
 dot-requires-2 : tie.Need-dot-requires-2 Inv-loop μ-loop
-dot-requires-2 c κs = from (c .before .before .before .before .before) .pre .0 .2 .next (c .before .before .before .before .before .loop .k) (omega arith)
+dot-requires-2 c κs = from (c .before .before .before .before) .pre .0 .2 .next (c .before .before .before .before .loop .k) (omega arith)
 
-scaled-requires-2 : tie.Need-scaled-requires-2 Inv-loop μ-loop
-scaled-requires-2 c κs = tt
+mul-sample-value : tie.Need-mul-sample-value Inv-loop μ-loop
+mul-sample-value c = omega arith
 
-mul-value-of : tie.Need-mul-value-of Inv-loop μ-loop
-mul-value-of c = omega arith
+shared-slice-read-sample-value : tie.Need-shared-slice-read-sample-value Inv-loop μ-loop
+shared-slice-read-sample-value c = omega (arith, from (c .before .before .before .before .before .before) .pre .1 .0)
 
-shared-slice-read-value-of : tie.Need-shared-slice-read-value-of Inv-loop μ-loop
-shared-slice-read-value-of c = omega (arith, from (c .before .before .before .before .before .before .before .before) .pre .1 .offsets-room)
+cast-sample-value : tie.Need-cast-sample-value Inv-loop μ-loop
+cast-sample-value c = let b = c .before in omega (arith, s b .pre .1 .1 (k b) (omega arith))
 
-value-of-requires : tie.Need-value-of-requires Inv-loop μ-loop
-value-of-requires c κs =
-    let b = c .before in
-    let m = from (t b) .pre .1 in
-    simp (reads, base-fits b, next-fits b) (rw (base-is b) (m .base-size (k b) (omega arith)), rw (next-is b) (m .next-size (k b) (omega arith)), m .offset-low (k b) (omega arith))
+sample-value-requires : tie.Need-sample-value-requires Inv-loop μ-loop
+sample-value-requires c κs = let b = c .before in s b .pre .1 .1 (k b) (omega arith)
 
 sub-value : tie.Need-sub-value Inv-loop μ-loop
-sub-value c = omega (arith, from (c .before .before .before .before .before .before .before .before .before) .pre .0)
+sub-value c = omega (arith, from (c .before .before .before .before .before .before .before) .pre .0)
 
 sub-value-2 : tie.Need-sub-value-2 Inv-loop μ-loop
-sub-value-2 c = omega (arith, from (c .before .before .before .before .before .before .before .before .before) .pre .0)
+sub-value-2 c = omega (arith, from (c .before .before .before .before .before .before .before) .pre .0)
 
 mul-value : tie.Need-mul-value Inv-loop μ-loop
-mul-value c = omega (arith, from (c .before .before .before .before .before .before .before .before .before) .pre .0)
+mul-value c = omega (arith, from (c .before .before .before .before .before .before .before) .pre .0)
 
 slice-set-from-value : tie.Need-slice-set-from-value Inv-loop μ-loop
-slice-set-from-value c = omega (arith, from (c .before .before .before .before .before .before .before .before .before) .pre .0, c .before .before .before .before .before .before .before .before .before .loop .inv .1)
+slice-set-from-value c = omega (arith, from (c .before .before .before .before .before .before .before) .pre .0, c .before .before .before .before .before .before .before .loop .inv .1)
 
 add-k : tie.Need-add-k Inv-loop μ-loop
 add-k c = omega arith
@@ -124,13 +114,14 @@ loop-less c = omega arith
 loop-again : tie.Need-loop-again Inv-loop μ-loop
 loop-again c =
     let b = c .before .before in
-    let fits : SFits w64 (c .value-of .result) = record { sfits = c .value-of .ok } in
-    let value : c .value-of .result ≡ values (s b) (k b) =
-    (simp (reads, base-fits b, next-fits b) at (c .value-of .ensures)) ∙ ap₂ (λ x y. mixedValue x y (getD (s b .args .offsets .now) (k b) 0)) (base-is b) (next-is b) in
-    let before = from (t b) .pre .0 in (
+    let fits : SFits w64 (c .sample-value .result) = record { sfits = c .sample-value .ok } in
+    let value : c .sample-value .result ≡ values (s b) (k b) =
+    (simp (reads, base-fits b, next-fits b) at (c .sample-value .ensures))
+    ∙ ap₂ (λ x y. mixedValue (x *ℤ pos 256) (y *ℤ pos 256) (getD (s b .args .offsets .now) (k b) 0)) (b .before .dot .ensures) (b .dot2 .ensures) in
+    let before = s b .pre .0 in (
       omega arith,
       simp length-set (t b .loop .inv .1),
-      simp (reads, fits) (newest-next (s b .args .line .now) (s b .args .end) (values (s b)) (k b) (c .value-of .result) (before .1) (omega (arith, before .0)) value refl (omega arith) (t b .loop .inv .2)),
+      simp (reads, fits) (newest-next (s b .args .line .now) (s b .args .end) (values (s b)) (k b) (c .sample-value .result) (before .1) (omega (arith, before .0)) value refl (omega arith) (t b .loop .inv .2)),
     )
 
 same-length : tie.Need-same-length Inv-loop μ-loop
@@ -151,16 +142,17 @@ sample-values-by-spec =
     loop-holds
     mul-first
     shared-slice-read-first
+    cast-first
     mul-row
     shared-slice-read-row
+    cast-row
     dot-requires
-    scaled-requires
     add-dot
     dot-requires-2
-    scaled-requires-2
-    mul-value-of
-    shared-slice-read-value-of
-    value-of-requires
+    mul-sample-value
+    shared-slice-read-sample-value
+    cast-sample-value
+    sample-value-requires
     sub-value
     sub-value-2
     mul-value

@@ -12,7 +12,7 @@ use Rattle.arith.specs.Lists.{tabulate, overwrite}
 use Rattle.arith.proofs.Lists.{tabulate-ext}
 use Rattle.book.specs.Book.{sizesOf}
 use Rattle.book.proofs.Accepted.{Accepted, accepted, sizes-bounded}
-use Rattle.values.specs.Values.{unit, levelValue}
+use Rattle.values.specs.Values.{unit, offsetAt, levelValue}
 use Rattle.windows.specs.Rows.{rowWidth}
 use Rattle.windows.specs.Runs.{runValue}
 use Rattle.windows.proofs.ImpulseRows.{rowWidth-between}
@@ -23,6 +23,10 @@ use Rattle.windows.proofs.window.level_values.Tie as tie
 
 quotient-≤ : {x y : ℕ} (k : ℕ) → 0 < k → x ≤ y → x / k ≤ y / k
 quotient-≤ {x} k h l = le-div-iff-mul-le h .1 (le-trans (div-mul-le-self x k) l)
+
+-- an offset of level 0
+sixteens : {l x : ℕ} (y : ℕ) → l ≡ 0 → x ≡ y * 2 ^ (4 - l) → x % 16 ≡ 0
+sixteens {l} {x} y e d = let m : x ≡ y * 16 = d ∙ ap (λ n. y * 2 ^ (4 - n)) e in omega arith
 
 module _ (s : tie.Start) where
   abbrev book : List ℤ
@@ -217,7 +221,10 @@ slice-aggregate-sample-run-4 : tie.Need-slice-aggregate-sample-run-4
 slice-aggregate-sample-run-4 c = search needs
 
 sample-run-requires : tie.Need-sample-run-requires
-sample-run-requires c κs = let w = c .before .before .before .before .before .before in let p = from w .pre .1 .0 in (p .3, p .4, p .2, run w .0)
+sample-run-requires c κs =
+    let w = c .before .before .before .before .before .before in
+    let p = from w .pre .1 .0 in
+    (p .3, p .4, p .2, run w .0, λ e k h. sixteens (offsetAt (book (from w)) (level (from w)) (positionAt (from w) k)) e (run w .2 k h))
 
 same-length : tie.Need-same-length
 same-length c = search needs
