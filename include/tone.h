@@ -17,7 +17,7 @@
  *
  * tone_numbers.h has the promise that every call keeps, the rules on pointers,
  * the numbers and the limits of book and store. On x86-64 tone_play takes some
- * 21 KB of stack, every other call less than 2 KB (measured, not proved).
+ * 20 KB of stack, every other call less than 2 KB (measured, not proved).
  *
  *
  * A VOICE
