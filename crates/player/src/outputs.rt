@@ -114,12 +114,12 @@ pub(crate) fn fill(v: Voice, book: &[i32], store: &[i32], out: &mut [i16]) -> Pl
     let layout = layout_of(book, store);
     let phases = layout.phases;
     let taps = layout.taps;
-    if (phases + 1) * row_width(taps) <= 1040 {
-        let mut table = [0i16; 1040];
+    if (phases + 1) * row_width(taps) < 1048 {
+        let mut table = [0i16; 1048];
         stage_rows(&mut table, book, phases, taps);
         return fill_by(&table, v, book, store, layout, out);
     }
-    let mut table = [0i16; 4128];
+    let mut table = [0i16; 4136];
     stage_rows(&mut table, book, phases, taps);
     fill_by(&table, v, book, store, layout, out)
 }

@@ -1,19 +1,21 @@
 -- Sums of products: how large they are, and how they are taken apart. Assumes nothing.
 use mathlib.Core.Path.{_≡_, ap, _∙_}
 use mathlib.Core.List.{List}
-use Prim.Native.Nat.{ℕ, _+_, _-_, _*_, _≤_, _<_}
-use native.Mathlib.Nat.{le-trans, mul-le-mul-right}
+use Prim.Native.Nat.{ℕ, zero, suc, _+_, _-_, _*_, _^_, _≤_, _<_}
+use native.Mathlib.Nat.{le-refl, le-trans, mul-le-mul-right}
+use native.Mathlib.Decide.{ℕ-discrete, decLt}
 use native.Mathlib.Omega.{arith}
 use lib.IntN.{ℤ, pos, natAbs, _+ℤ_, _*ℤ_, *ℤ-comm}
-use mir.Syntax.{w32}
-use mir.Val.{SFits}
+use lib.Signed.{_≤ℤ_, _<ℤ_}
 use Rattle.arith.specs.Lists.{at}
 use Rattle.arith.specs.Sum.{sum, total}
-use Rattle.arith.proofs.Integers.{abs-fits}
+use Rattle.arith.proofs.Integers.{abs-≤, ≤-abs, abs-*-≤, *ℤ-≤ℤ}
 use Rattle.arith.proofs.Linear.{linear}
 use Rattle.arith.proofs.Ring.{products, terms}
-use Rattle.arith.proofs.Sum.{sum-ext, sum-more, sum-+, sum-*, sum-zero, sum-split, sum-abs-*, total-mono}
-use Rattle.windows.specs.Sums.{dotSum, Summable}
+use Rattle.arith.proofs.Sum.{sum-ext, sum-more, sum-+, sum-*, sum-zero, sum-split, sum-abs-*, total-more, total-mono}
+use Rattle.windows.specs.Parts.{Small, Samples}
+use Rattle.windows.specs.Rows.{Positive}
+use Rattle.windows.specs.Sums.{dotSum, Fits32}
 
 -- and one product more
 pub dotSum-more : (words : List ℤ) (a : ℕ) (table : List ℤ) (r n : ℕ) → dotSum words a table r (n + 1) ≡ dotSum words a table r n +ℤ at words (a + n) *ℤ at table (r + n)
@@ -29,12 +31,75 @@ dotSum-bound words a table r n c h =
     let g : ℕ → ℤ = λ k. at table (r + k) in
     rw (sum-ext n {f = λ k. w k *ℤ g k} {g = λ k. g k *ℤ w k} (λ k m. *ℤ-comm (w k) (g k))) (sum-abs-* n g w c h)
 
--- no sum on the way is larger than 32 bits hold
-pub dotSum-fits : (words : List ℤ) (a : ℕ) (table : List ℤ) (r W : ℕ) → Summable words a table r W → (n : ℕ) → n ≤ W → SFits w32 (dotSum words a table r n)
-dotSum-fits words a table r W s n h =
-    let fewer : total n (λ k. natAbs (at table (r + k))) ≤ total W (λ k. natAbs (at table (r + k))) = total-mono n W (λ k. natAbs (at table (r + k))) h in
-    let all : total n (λ k. natAbs (at table (r + k))) * 32767 ≤ 65536 * 32767 = mul-le-mul-right 32767 (le-trans fewer (s .row-size)) in
-    abs-fits w32 (dotSum words a table r n) (omega (arith, all, dotSum-bound words a table r n 32767 (λ k m. s .small (a + k))))
+-- ---- no sum on the way is larger than 32 bits hold, where the sizes of the coefficients add up to 2^16 at most
+
+below-fits : {x : ℤ} → natAbs x < 2 ^ 31 → Fits32 x
+below-fits h = (simp linear (omega (arith, simp linear at h)), simp linear (omega (arith, simp linear at h)))
+
+close-fits : {x : ℤ} {t : ℕ} → t ≤ 65536 → natAbs x ≤ t * 32768 → x <ℤ pos (32768 * t) → Fits32 x
+close-fits few h l = (simp linear (omega (arith, few, simp linear at h)), simp linear (omega (arith, few, simp linear at l)))
+
+module _ (words : List ℤ) (a : ℕ) (table : List ℤ) (r W : ℕ) (few : total W (λ k. natAbs (at table (r + k))) ≤ 65536) where
+  abbrev sumTo : ℕ → ℤ
+  sumTo n = dotSum words a table r n
+
+  abbrev word : ℕ → ℤ
+  word k = at words (a + k)
+
+  abbrev tap : ℕ → ℤ
+  tap k = at table (r + k)
+
+  abbrev size : ℕ → ℕ
+  size n = total n (λ k. natAbs (at table (r + k)))
+
+  size-few : (n : ℕ) → n ≤ W → size n ≤ 65536
+  size-few n h = le-trans (total-mono n W (λ k. natAbs (tap k)) h) few
+
+  -- of words that are smaller than 2^15
+  pub small-fits : Small words → (n : ℕ) → n ≤ W → Fits32 (sumTo n)
+  small-fits small n h = below-fits {x = sumTo n} (omega (arith, mul-le-mul-right 32767 (size-few n h), dotSum-bound words a table r n 32767 (λ k m. small (a + k))))
+
+  -- of any samples, if a coefficient is positive: -2^15 times it is no positive product, so that the sum misses 2^31 by it
+  module _ (samples : Samples words) (p : Positive table r W) where
+    word-size : (k : ℕ) → natAbs (word k) ≤ 32768
+    word-size k = let s = simp linear at (samples (a + k)) in abs-≤ (word k) (simp linear (omega (arith, s)), simp linear (omega (arith, s)))
+
+    bound : (n : ℕ) → natAbs (sumTo n) ≤ size n * 32768
+    bound n = dotSum-bound words a table r n 32768 (λ k m. word-size k)
+
+    product-high : (k : ℕ) → (word k *ℤ tap k) ≤ℤ pos (32768 * natAbs (tap k))
+    product-high k = ≤-abs (abs-*-≤ (word k) (tap k) (word-size k) (le-refl (natAbs (tap k)))) .0
+
+    product-below : (word (p .place) *ℤ tap (p .place)) <ℤ pos (32768 * natAbs (tap (p .place)))
+    product-below =
+        let k = p .place in
+        let c = p .above in
+        let most : (word k *ℤ tap k) ≤ℤ (pos 32767 *ℤ tap k) = *ℤ-≤ℤ (simp linear (omega (arith, simp linear at c))) (samples (a + k) .1) in
+        simp linear (omega (arith, simp linear at c, simp linear at most))
+
+    sum-below : (n : ℕ) → p .place < n → sumTo n <ℤ pos (32768 * size n)
+    unfolding dotSum sum total
+    sum-below zero h = absurd (omega arith)
+    sum-below (suc n) h = go (ℕ-discrete n (p .place)) (sum-below n)
+      where
+        go : Dec (n ≡ p .place) → (p .place < n → sumTo n <ℤ pos (32768 * size n)) → sumTo (suc n) <ℤ pos (32768 * size (suc n))
+        go (yes e) before =
+            let last = rw (← e) at product-below in
+            simp linear (omega (arith, simp linear at (bound n), simp linear at last))
+        go (no d) before = simp linear (omega (arith, simp linear at (before (omega arith)), simp linear at (product-high n)))
+
+    pub samples-fit : (n : ℕ) → n ≤ W → Fits32 (sumTo n)
+    samples-fit n h = go (decLt (p .place) n)
+      where
+        go : Dec (p .place < n) → Fits32 (sumTo n)
+        go (yes l) = close-fits {x = sumTo n} (size-few n h) (bound n) (sum-below n l)
+        go (no l) =
+            let k = p .place in
+            let c = p .above in
+            let tap-size : 1 ≤ natAbs (tap k) = simp linear (omega (arith, simp linear at c)) in
+            let fewer = total-mono n k (λ j. natAbs (tap j)) (omega arith) in
+            let whole = size-few (k + 1) (omega (arith, p .inside)) in
+            below-fits {x = sumTo n} (omega (arith, bound n, fewer, whole, total-more k (λ j. natAbs (tap j)), tap-size))
 
 -- ---- taken apart
 

@@ -10,7 +10,7 @@ use native.Mathlib.Omega.{arith}
 use borrow.Author.Tests.{leb-true, lt-ltb, le-ltb}
 use lib.Dec.{leb}
 use lib.IntN.{ℤ, pos, negsuc, natAbs}
-use lib.ListN.{length, set}
+use lib.ListN.{length, set, length-set}
 use lib.Seq.{getD-set-same, getD-set-other}
 use Rattle.arith.specs.Limit.{limit}
 use Rattle.arith.specs.Lists.{at}
@@ -24,7 +24,7 @@ use Rattle.book.specs.Check.{wordsInRange, coefficientsInRange, phaseSum}
 use Rattle.book.proofs.Accepted.{Accepted, sizes-bounded, phaseSum-bound}
 use Rattle.book.proofs.Bounds.{row-below}
 use Rattle.book.proofs.Parts.{impulse-stored, impulse-past, impulse-end}
-use Rattle.windows.specs.Rows.{rowWidth, narrowWord, rowWord, PutAt, PhasesOf, RowsOf}
+use Rattle.windows.specs.Rows.{rowWidth, narrowWord, rowWord, Positive, PutAt, PhasesOf, RowsOf}
 
 -- ---- a row, written word by word
 
@@ -151,11 +151,21 @@ module _ (b : List ℤ) (a : Accepted b) where
         go (yes l) = narrowWord-tap b N q k l ∙ narrow-same (q * N + k) (row-below h l) ∙ sym (impulse-stored b q k h) ∙ sym (rowWord-tap l)
         go (no n) = let l : N ≤ k = omega arith in narrowWord-rest b N q k l ∙ sym (rowWord-rest l)
 
+  -- what the rows are, and that 0 stands behind them
+  pub record Whole (table : List ℤ) : Type 0 where
+    pub room : (M + 1) * W < length table
+    pub word : (q k : ℕ) → q ≤ M → k < W → at table (q * W + k) ≡ rowWord b q k
+    pub rest : at table (length table - 1) ≡ pos 0
+
   -- behind the phases' rows comes that of phase 0, from its second impulse on
   pub rows-whole : {row table table₁ : List ℤ} → PhasesOf b N W M table → ((k : ℕ) → k < N - 1 → at row k ≡ narrow (at b (6 + k))) → PutAt row (M * W) (N - 1) table table₁
-      → (M + 1) * W ≤ length table₁ → RowsOf b table₁
+      → (M + 1) * W < length table₁ → Whole table₁
   unfolding impulseWord
-  rows-whole {row} {table} {table₁} p words put room = record { room = room; word = λ q k h l. at-row q k h l (decLt q M) (decLt (suc k) N) }
+  rows-whole {row} {table} {table₁} p words put room = record {
+    room = room;
+    word = λ q k h l. at-row q k h l (decLt q M) (decLt (suc k) N);
+    rest = let n = length table₁ - 1 in put .behind n (omega (arith, wide)) ∙ p .rest n (omega arith);
+  }
     where
       at-row : (q k : ℕ) → q ≤ M → k < W → Dec (q < M) → Dec (suc k < N) → at table₁ (q * W + k) ≡ rowWord b q k
       at-row q k h l (yes m) d = put .before (q * W + k) (row-below m l) ∙ p .word q k m l ∙ narrow-row q k m
@@ -171,6 +181,26 @@ module _ (b : List ℤ) (a : Accepted b) where
           last : (k : ℕ) → N ≤ suc k → Dec (k < N) → rowWord b M k ≡ pos 0
           last k h (yes l) = rowWord-tap M k l ∙ impulse-end b k h
           last k h (no n) = rowWord-rest M k (omega arith)
+
+  -- ---- their mark
+
+  pub rows-unmarked : {table : List ℤ} → Whole table → RowsOf b table
+  rows-unmarked w = record { room = w .room; word = w .word; positive = λ m q h. nothing (sym (w .rest) ∙ m) }
+    where
+      nothing : {P : Type 0} → pos 0 ≡ pos 1 → P
+      nothing e = absurd (omega (arith, ap natAbs e))
+
+  pub rows-marked : (table : List ℤ) → Whole table → ((q : ℕ) → q < M + 1 → Positive table (q * W) W) → RowsOf b (set table (length table - 1) (pos 1))
+  rows-marked table w positive = record {
+    room = rw length-set (w .room);
+    word = λ q k h l. same q k h l ∙ w .word q k h l;
+    positive = λ m q h. let p = positive q (omega arith) in record { place = p .place; inside = p .inside; above = rw (same q (p .place) h (p .inside)) (p .above) };
+  }
+    where
+      same : (q k : ℕ) → q ≤ M → k < W → at (set table (length table - 1) (pos 1)) (q * W + k) ≡ at table (q * W + k)
+      same q k h l =
+          let in-rows : q * W + k < (M + 1) * W = row-below (omega arith) l in
+          getD-set-other table (length table - 1) (q * W + k) (pos 1) (pos 0) (λ e. omega (arith, in-rows, w .room))
 
   -- ---- what they add up to
 

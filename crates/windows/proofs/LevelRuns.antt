@@ -80,6 +80,7 @@ module _ (b : List ℤ) (a : Accepted b) {table : List ℤ} (t : RowsOf b table)
     room = let in-table : suc q * W ≤ (sizesOf b .phases + 1) * W = mul-le-mul-right W (omega arith) in omega (arith, in-table, t .room);
     size = row-total b a t q h;
     rest = row-rest b a t q h;
+    positive = λ m. t .positive m q h;
   }
 
   -- ---- a run
@@ -118,6 +119,7 @@ module _ (b : List ℤ) (a : Accepted b) {table : List ℤ} (t : RowsOf b table)
           firsts-room = p .firsts-room;
           offsets-room = p .offsets-room;
           window-room = omega (arith, p .window-room, f .taps-high);
+          table-room = omega (arith, t .room);
           reach-high = omega (arith, f .taps-high);
           taps-high = f .taps-high;
           words-small = staged-small window words l (last + N / 2) (last - base + N) low (p .staged);

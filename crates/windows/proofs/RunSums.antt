@@ -7,11 +7,11 @@ use native.Mathlib.Omega.{arith}
 use lib.IntN.{ℤ, pos, natAbs, _+ℤ_, _*ℤ_}
 use lib.ListN.{length, getD}
 use Rattle.arith.specs.Lists.{at}
-use Rattle.windows.specs.Rows.{rowWidth}
-use Rattle.windows.specs.Parts.{Within, Small, PartsOf, SamplesOf}
-use Rattle.windows.specs.Sums.{dotSum, Summable, Readable, sumHere, sumNext, mixedValue, PartSums, partsValue}
+use Rattle.windows.specs.Rows.{rowWidth, Marked}
+use Rattle.windows.specs.Parts.{Within, Small, Samples, PartsOf, SamplesOf}
+use Rattle.windows.specs.Sums.{dotSum, Fits32, Summable, Readable, sumHere, sumNext, mixedValue, PartSums, partsValue}
 use Rattle.windows.specs.Runs.{RowFits, RunOf, runValue}
-use Rattle.windows.proofs.Dots.{dotSum-bound, dotSum-rest, dotSum-scaled, dotSum-parts}
+use Rattle.windows.proofs.Dots.{dotSum-bound, small-fits, samples-fit, dotSum-rest, dotSum-scaled, dotSum-parts}
 use Rattle.windows.proofs.ImpulseRows.{rowWidth-between, taps-fit}
 
 module _ {window table : List ℤ} {N reach n : ℕ} {rows firsts offsets : List ℕ} (run : RunOf window table N reach n rows firsts offsets) where
@@ -29,21 +29,30 @@ module _ {window table : List ℤ} {N reach n : ℕ} {rows firsts offsets : List
 
   -- ---- what may be summed
 
-  summable : {words : List ℤ} {r : ℕ} (k : ℕ) → k < n → length words ≡ 192 → Small words → RowFits table r N W → Summable words (first k) table r W
-  summable k h l small fits = record {
+  -- words whose sums over any row fit 32 bits
+  abbrev Summed : List ℤ → Type 0
+  Summed words = (a r : ℕ) → RowFits table r N W → (j : ℕ) → j ≤ W → Fits32 (dotSum words a table r j)
+
+  pub small-summed : (words : List ℤ) → Small words → Summed words
+  small-summed words small a r f = small-fits words a table r W (f .size) small
+
+  pub samples-summed : (words : List ℤ) → Marked table → Samples words → Summed words
+  samples-summed words marked samples a r f = samples-fit words a table r W (f .size) samples (f .positive marked)
+
+  summable : (words : List ℤ) {r : ℕ} (k : ℕ) → k < n → length words ≡ 192 → Summed words → RowFits table r N W → Summable words (first k) table r W
+  summable words {r} k h l summed f = record {
     narrow = rowWidth-between N .1;
     words-room = omega (arith, l, run .inside k h, run .reach-high, rowWidth-between N);
-    table-room = fits .room;
-    small = small;
-    row-size = fits .size;
+    table-room = f .room;
+    fits = summed (first k) r f;
   }
 
-  pub readable : {x y : List ℤ} → length x ≡ 192 → length y ≡ 192 → Small x → Small y → Readable x y table W n rows firsts
-  readable l m s t = record {
+  pub readable : (x y : List ℤ) → length x ≡ 192 → length y ≡ 192 → Summed x → Summed y → Readable x y table W n rows firsts
+  readable x y l m s t = record {
     rows-room = run .rows-room;
     firsts-room = run .firsts-room;
-    here = λ k h. summable k h l s (run .here k h);
-    next = λ k h. summable k h m t (run .next k h);
+    here = λ k h. summable x k h l s (run .here k h);
+    next = λ k h. summable y k h m t (run .next k h);
   }
 
   -- ---- the sums over the window's words

@@ -14,7 +14,7 @@ use Rattle.arith.specs.Lists.{at}
 use Rattle.arith.proofs.Floor.{floor-≤, floor-<, floor-bound}
 use Rattle.arith.proofs.Limit.{limit-same}
 use Rattle.arith.proofs.Linear.{linear}
-use Rattle.windows.specs.Parts.{Within, Small, PartsOf, SamplesOf}
+use Rattle.windows.specs.Parts.{Within, Sample, Samples, PartsOf, SamplesOf}
 
 -- ---- the parts of a word
 
@@ -49,8 +49,8 @@ module _ (xs ys : List ℤ) (k : ℕ) (v w : ℤ) (h : k < length xs) (l : k < l
       go (yes p) = rw (p, getD-set-same xs k v (pos 0) h, getD-set-same ys k w (pos 0) l) here
       go (no n) = rw (getD-set-other xs k j v (pos 0) n, getD-set-other ys k j w (pos 0) n) (other n)
 
-set-within : {c : ℕ} (xs : List ℤ) (k : ℕ) (v : ℤ) → k < length xs → Within c xs → natAbs v ≤ c → Within c (set xs k v)
-set-within {c} xs k v h small e j = written xs xs k v v h h (λ i x y. natAbs x ≤ c) e j (λ n. small j)
+set-every : (P : ℤ → Type 0) (xs : List ℤ) (k : ℕ) (v : ℤ) → k < length xs → ((j : ℕ) → P (at xs j)) → P v → (j : ℕ) → P (at (set xs k v) j)
+set-every P xs k v h all e j = written xs xs k v v h h (λ i x y. P x) e j (λ n. all j)
 
 -- ---- a loop that takes words apart
 
@@ -62,20 +62,20 @@ module _ (window high low : List ℤ) where
       → PartsOf window (k + 1) (set high k v) (set low k w)
   parts-more k v w h l p e s t = record {
     word = λ j m. written high low k v w h l (λ i x y. at window i ≡ x *ℤ pos 16384 +ℤ y) e j (λ n. p .word j (omega arith));
-    high-small = set-within high k v h (p .high-small) s;
-    low-small = set-within low k w l (p .low-small) t;
+    high-small = set-every (λ x. natAbs x ≤ 8192) high k v h (p .high-small) s;
+    low-small = set-every (λ x. natAbs x ≤ 16383) low k w l (p .low-small) t;
   }
 
 -- ---- a loop that takes samples
 
 module _ (window first second : List ℤ) where
-  pub samples-none : Small first → Small second → SamplesOf window 0 first second
-  samples-none s t = record { word = λ j h. absurd (omega arith); first-small = s; second-small = t }
+  pub samples-none : Samples first → Samples second → SamplesOf window 0 first second
+  samples-none s t = record { word = λ j h. absurd (omega arith); first-narrow = s; second-narrow = t }
 
-  pub samples-more : (k : ℕ) (v : ℤ) → k < length first → k < length second → SamplesOf window k first second → at window k ≡ v *ℤ pos 256 → natAbs v ≤ 32767
+  pub samples-more : (k : ℕ) (v : ℤ) → k < length first → k < length second → SamplesOf window k first second → at window k ≡ v *ℤ pos 256 → Sample v
       → SamplesOf window (k + 1) (set first k v) (set second k v)
   samples-more k v h l p e s = record {
     word = λ j m. written first second k v v h l (λ i x y. (at window i ≡ x *ℤ pos 256) × (at window i ≡ y *ℤ pos 256)) (e, e) j (λ n. p .word j (omega arith));
-    first-small = set-within first k v h (p .first-small) s;
-    second-small = set-within second k v l (p .second-small) s;
+    first-narrow = set-every Sample first k v h (p .first-narrow) s;
+    second-narrow = set-every Sample second k v l (p .second-narrow) s;
   }

@@ -2,10 +2,11 @@
 use mathlib.Core.Bool.{cond}
 use mathlib.Core.List.{List}
 use mathlib.Core.Path.{_≡_}
-use Prim.Native.Nat.{ℕ, _+_, _*_, _≤_, _<_}
+use Prim.Native.Nat.{ℕ, _+_, _-_, _*_, _≤_, _<_}
 use lib.Dec.{leb, ltb}
 use lib.IntN.{ℤ, pos, negsuc}
 use lib.ListN.{length}
+use lib.Signed.{_≤ℤ_}
 use Rattle.arith.specs.Limit.{limit}
 use Rattle.arith.specs.Lists.{at}
 use Rattle.book.specs.Book.{sizesOf, impulse}
@@ -41,7 +42,18 @@ pub record PhasesOf (b : List ℤ) (N W M : ℕ) (table : List ℤ) : Type 0 whe
   pub word : (q k : ℕ) → q < M → k < W → at table (q * W + k) ≡ narrowWord b N q k
   pub rest : (j : ℕ) → M * W ≤ j → at table j ≡ pos 0
 
--- the rows of a book, one behind another, for q = 0 .. M
+-- of W coefficients from place r on one is positive: then a sum of products with samples does not reach 2^31
+pub record Positive (table : List ℤ) (r W : ℕ) : Type 0 where
+  pub place : ℕ
+  pub inside : place < W
+  pub above : pos 1 ≤ℤ at table (r + place)
+
+-- the last word of a table says so of all its rows
+abbrev pub Marked : List ℤ → Type 0
+Marked table = at table (length table - 1) ≡ pos 1
+
+-- the rows of a book, one behind another, for q = 0 .. M, and a word more
 pub record RowsOf (b table : List ℤ) : Type 0 where
-  pub room : (sizesOf b .phases + 1) * rowWidth (sizesOf b .taps) ≤ length table
+  pub room : (sizesOf b .phases + 1) * rowWidth (sizesOf b .taps) < length table
   pub word : (q k : ℕ) → q ≤ sizesOf b .phases → k < rowWidth (sizesOf b .taps) → at table (q * rowWidth (sizesOf b .taps) + k) ≡ rowWord b q k
+  pub positive : Marked table → (q : ℕ) → q ≤ sizesOf b .phases → Positive table (q * rowWidth (sizesOf b .taps)) (rowWidth (sizesOf b .taps))

@@ -6,7 +6,7 @@ use lib.IntN.{ℤ, pos, natAbs}
 use lib.ListN.{length, getD}
 use Rattle.arith.specs.Lists.{at}
 use Rattle.arith.specs.Sum.{total}
-use Rattle.windows.specs.Rows.{rowWidth}
+use Rattle.windows.specs.Rows.{rowWidth, Positive, Marked}
 use Rattle.windows.specs.Sums.{dotSum, mixedValue}
 
 -- a row of W coefficients from place r on, of which N count
@@ -14,6 +14,7 @@ pub record RowFits (table : List ℤ) (r N W : ℕ) : Type 0 where
   pub room : r + W ≤ length table
   pub size : total W (λ k. natAbs (at table (r + k))) ≤ 65536
   pub rest : (k : ℕ) → N ≤ k → k < W → at table (r + k) ≡ pos 0
+  pub positive : Marked table → Positive table r W
 
 -- n places whose N words lie among the first `reach` of a window, and whose coefficients in two rows of a table, one behind the other
 pub record RunOf (window table : List ℤ) (N reach n : ℕ) (rows firsts offsets : List ℕ) : Type 0 where
@@ -21,6 +22,7 @@ pub record RunOf (window table : List ℤ) (N reach n : ℕ) (rows firsts offset
   pub firsts-room : n ≤ length firsts
   pub offsets-room : n ≤ length offsets
   pub window-room : reach ≤ length window
+  pub table-room : 1 ≤ length table
   pub reach-high : reach ≤ 160
   pub taps-high : N ≤ 24
   pub words-small : (k : ℕ) → k < reach → natAbs (at window k) ≤ 2 ^ 27

@@ -1,24 +1,27 @@
 -- Sums of products, and the values that they make: no rule of document 01, but steps of the code that computes one.
 use mathlib.Core.List.{List}
 use Prim.Native.Nat.{ℕ, _+_, _*_, _^_, _≤_, _<_}
-use lib.IntN.{ℤ, pos, natAbs, _+ℤ_, _-ℤ_, _*ℤ_}
+use lib.IntN.{ℤ, pos, negℤ, natAbs, _+ℤ_, _-ℤ_, _*ℤ_}
 use lib.ListN.{length, getD}
+use lib.Signed.{_≤ℤ_, _<ℤ_}
 use Rattle.arith.specs.Floor.{near}
 use Rattle.arith.specs.Lists.{at}
-use Rattle.arith.specs.Sum.{sum, total}
-use Rattle.windows.specs.Parts.{Small}
+use Rattle.arith.specs.Sum.{sum}
 
 -- n words from place a on, times n coefficients from place r on
 unfoldable pub dotSum : List ℤ → ℕ → List ℤ → ℕ → ℕ → ℤ
 dotSum words a table r n = sum n (λ k. at words (a + k) *ℤ at table (r + k))
 
--- W words and W coefficients that a sum may take
+-- x fits 32 bits
+abbrev pub Fits32 : ℤ → Type 0
+Fits32 x = (negℤ (pos (2 ^ 31)) ≤ℤ x) × (x <ℤ pos (2 ^ 31))
+
+-- W words and W coefficients that a sum may take: on the way none is larger than 32 bits hold
 pub record Summable (words : List ℤ) (a : ℕ) (table : List ℤ) (r W : ℕ) : Type 0 where
   pub narrow : W ≤ 32
   pub words-room : a + W ≤ length words
   pub table-room : r + W ≤ length table
-  pub small : Small words
-  pub row-size : total W (λ k. natAbs (at table (r + k))) ≤ 65536
+  pub fits : (n : ℕ) → n ≤ W → Fits32 (dotSum words a table r n)
 
 -- n places at which x is summed over the rows, and y over the rows behind them
 pub record Readable (x y table : List ℤ) (W n : ℕ) (rows firsts : List ℕ) : Type 0 where

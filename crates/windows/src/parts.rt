@@ -7,7 +7,7 @@ ghost use lib.IntN.{pos, negsuc, natAbs, _*ℤ_};
 ghost use lib.ListN.{length};
 ghost use lib.Signed.{_≤ℤ_};
 ghost use Rattle.arith.specs.Lists.{at};
-ghost use Rattle.windows.specs.Parts.{Within, PartsOf, SamplesOf};
+ghost use Rattle.windows.specs.Parts.{Within, PartsOf, Samples, SamplesOf};
 use arith::narrow;
 
 // The first `count` words as 2^14 × high + low.
@@ -26,15 +26,12 @@ pub(crate) fn split(high: &mut [i16], low: &mut [i16], window: &[i32], count: us
     }
 }
 
-// 1 where x is not 256 × s, or s is -32768, of which a sum of products might not fit.
+// 1 where x is not 256 × s.
 fn no_sample(x: i32, s: i32) -> u32
     requires { ⌜ (negsuc 32767 ≤ℤ s) × (s ≤ℤ pos 32767) ⌝ }
-    ensures { λ r. ⌜ (r ≤ 1) × (r ≡ 0 → (x ≡ pos 256 *ℤ s) × (natAbs s ≤ 32767)) ⌝ }
+    ensures { λ r. ⌜ (r ≤ 1) × (r ≡ 0 → x ≡ pos 256 *ℤ s) ⌝ }
 {
     if x != s * 256 {
-        return 1;
-    }
-    if s == -32768 {
         return 1;
     }
     0
@@ -48,7 +45,7 @@ pub(crate) fn samples_of(
     count: usize,
 ) -> bool
     requires { ⌜ (count ≤ length (now window)) × (count ≤ length (now first)) × (count ≤ length (now second)) × (count < 2 ^ 31) ⌝ }
-    requires { ⌜ ((k : ℕ) → natAbs (at (now first) k) ≤ 32767) × ((k : ℕ) → natAbs (at (now second) k) ≤ 32767) ⌝ }
+    requires { ⌜ Samples (now first) × Samples (now second) ⌝ }
     ensures { λ r. ⌜ (r ≡ true → SamplesOf (now (window .entry)) count (now (first .exit)) (now (second .exit))) ⌝ }
 {
     let mut misses = 0;

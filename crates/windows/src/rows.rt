@@ -1,15 +1,18 @@
 // A book's impulses in rows of 16-bit words, made once per call. Row q has the impulses of phase q, for q = 0 .. M, and 0 behind them: a row is 8, 16
 // or 32 words wide, so that the compiler takes its products eight at a time.
 
+ghost use mathlib.Core.Bool.{true};
+ghost use mathlib.Core.Logic.{_⊎_};
 ghost use mathlib.Core.Path.{_≡_};
-ghost use Prim.Native.Nat.{ℕ, _+_, _*_, _%_, _≤_, _<_};
+ghost use Prim.Native.Nat.{ℕ, _+_, _-_, _*_, _%_, _≤_, _<_};
 ghost use lib.IntN.{pos, negsuc};
 ghost use lib.ListN.{length};
+ghost use lib.Signed.{_≤ℤ_};
 ghost use Rattle.arith.specs.Limit.{limit};
 ghost use Rattle.arith.specs.Lists.{at};
 ghost use Rattle.book.specs.Book.{sizesOf};
 ghost use Rattle.book.specs.Check.{bookNumber};
-ghost use Rattle.windows.specs.Rows.{rowWidth, PutAt, PhasesFit, PhasesOf, RowsOf};
+ghost use Rattle.windows.specs.Rows.{rowWidth, Positive, PutAt, PhasesFit, PhasesOf, RowsOf};
 use arith::narrow;
 
 // The width of the rows of a book with so many taps.
@@ -85,13 +88,43 @@ fn phase_rows(table: &mut [i16], book: &[i32], phases: usize, taps: usize, width
     }
 }
 
-// The rows of a book, in a table of zeros that has room for them. Behind the last phase comes the first one, from its second impulse on.
+// Whether of the coefficients before and at a place one is positive, as far as their sum tells.
+fn lobe(table: &[i16], middle: usize) -> bool
+    requires { ⌜ (1 ≤ middle) × (middle < length (now table)) ⌝ }
+    ensures { λ r. ⌜ (r ≡ true → (pos 1 ≤ℤ at (now (table .entry)) (middle - 1)) ⊎ (pos 1 ≤ℤ at (now (table .entry)) middle)) ⌝ }
+{
+    table[middle - 1] as i32 + table[middle] as i32 >= 1
+}
+
+// Whether each of `count` rows has a positive coefficient, as far as the two in its middle tell: in a usual filter they are the main lobe.
+fn lobes(table: &[i16], count: usize, taps: usize, width: usize) -> bool
+    requires { ⌜ (2 ≤ taps) × (taps ≤ width) × (width ≤ 32) × (count * width ≤ length (now table)) ⌝ }
+    ensures { λ r. ⌜ (r ≡ true → (q : ℕ) → q < count → Positive (now (table .entry)) (q * width) width) ⌝ }
+{
+    let mut middle = taps / 2;
+    let mut q = 0;
+    while q < count {
+        if !lobe(table, middle) {
+            return false;
+        }
+        middle += width;
+        q += 1;
+    }
+    true
+}
+
+// The rows of a book, in a table of zeros that has room for them and a word more. Behind the last phase comes the first one, from its second impulse on. The
+// table's last word is 1 if each row has a positive coefficient: then a sum of any samples fits 32 bits.
 pub fn stage_rows(table: &mut [i16], book: &[i32], phases: usize, taps: usize)
-    requires { ⌜ (bookNumber (now book) ≡ 0) × (phases ≡ sizesOf (now book) .phases) × (taps ≡ sizesOf (now book) .taps) × ((phases + 1) * rowWidth taps ≤ length (now table)) × ((j : ℕ) → at (now table) j ≡ pos 0) ⌝ }
+    requires { ⌜ (bookNumber (now book) ≡ 0) × (phases ≡ sizesOf (now book) .phases) × (taps ≡ sizesOf (now book) .taps) × ((phases + 1) * rowWidth taps < length (now table)) × ((j : ℕ) → at (now table) j ≡ pos 0) ⌝ }
     ensures { λ _. ⌜ RowsOf (now (book .entry)) (now (table .exit)) ⌝ }
 {
     let width = row_width(taps);
     phase_rows(table, book, phases, taps, width);
     let row = row_of(book, 6, taps - 1);
     put_row(table, phases * width, row, taps - 1);
+    if lobes(table, phases + 1, taps, width) {
+        let last = table.len() - 1;
+        table[last] = 1;
+    }
 }

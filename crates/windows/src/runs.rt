@@ -62,7 +62,8 @@ pub(crate) fn part_run(
     );
 }
 
-// From words that are samples × 256, where all of them are, as the builder writes level 0: whether they are. The offsets of level 0 are multiples of 16.
+// From words that are samples × 256, where all of them are, as the builder writes level 0, and where the table's mark says that their sums fit: whether that
+// is so. The offsets of level 0 are multiples of 16.
 pub(crate) fn sample_run(
     level: u32,
     line: &mut [i64],
@@ -80,6 +81,9 @@ pub(crate) fn sample_run(
     ensures { λ r. ⌜ (r ≡ true → now (line .exit) ≡ overwrite (now (line .entry)) (end - count) (tabulate count (λ j. runValue (now (window .entry)) (now (table .entry)) taps (now (rows .entry)) (now (firsts .entry)) (now (offsets .entry)) (count - suc j)))) × (r ≡ false → now (line .exit) ≡ now (line .entry)) ⌝ }
 {
     if level != 0 {
+        return false;
+    }
+    if table[table.len() - 1] != 1 {
         return false;
     }
     let mut first = [0i16; 192];

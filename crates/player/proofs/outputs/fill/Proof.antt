@@ -63,7 +63,7 @@ stage-rows-requires c κs =
     let l = c .before .before .before in
     let o = layout-is l .sizes in
     let fits = rw (c .before .before .row-width .ensures) at (c .before .if1 .taken) in
-    (o .book-accepted, o .phases, o .taps, fits, zeros-every (λ x. x ≡ pos 0) refl 1040)
+    (o .book-accepted, o .phases, o .taps, fits, zeros-every (λ x. x ≡ pos 0) refl 1048)
 
 slice-aggregate-fill-by : tie.Need-slice-aggregate-fill-by
 slice-aggregate-fill-by c = search needs
@@ -87,7 +87,7 @@ stage-rows-requires-2 : tie.Need-stage-rows-requires-2
 stage-rows-requires-2 c κs =
     let l = c .before .before .before in
     let o = layout-is l .sizes in
-    (o .book-accepted, o .phases, o .taps, omega (arith, rows-room l), zeros-every (λ x. x ≡ pos 0) refl 4128)
+    (o .book-accepted, o .phases, o .taps, omega (arith, rows-room l), zeros-every (λ x. x ≡ pos 0) refl 4136)
 
 slice-aggregate-fill-by-2 : tie.Need-slice-aggregate-fill-by-2
 slice-aggregate-fill-by-2 c = search needs

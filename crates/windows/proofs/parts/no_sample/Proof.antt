@@ -24,29 +24,11 @@ returns : tie.Need-returns
 returns c = (omega arith, λ e. absurd (omega arith))
 
 returns-2 : tie.Need-returns-2
-returns-2 c = (omega arith, λ e. absurd (omega arith))
-
--- what the two tests leave
-multiple : (c : tie.Else2) → c .before .before .args .x ≡ c .before .before .args .s *ℤ pos 256
-multiple c =
-    let s = c .before .before in
-    let e = simp (reads, s .fits .s) at (c .before .if1 .left) in
-    sym (toZ-ofZ w32 (s .args .x) (s .fits .x)) ∙ ap (toZ w32) e ∙ toZ-ofZ w32 (s .args .s *ℤ pos 256) (product-fits s)
-
-not-lowest : (c : tie.Else2) → c .before .before .args .s ≡ negsuc 32767 → ⊥
-not-lowest c e = c .if2 .left (ap (ofZ w32) e)
-
-above : (s : ℤ) → (negsuc 32767 ≤ℤ s) × (s ≤ℤ pos 32767) → (s ≡ negsuc 32767 → ⊥) → natAbs s ≤ 32767
-above s h other = go (≤ℤ-or-<ℤ (negsuc 32766) s)
-  where
-    go : (negsuc 32766 ≤ℤ s) ⊎ (s <ℤ negsuc 32766) → natAbs s ≤ 32767
-    go (inl l) = abs-≤ s (h .1, l)
-    go (inr l) = absurd (other (simp linear (omega (arith, simp linear at h, simp linear at l))))
-
-returns-3 : tie.Need-returns-3
-returns-3 c =
-    let b = c .before .before in
-    (omega arith, λ e. (multiple c ∙ *ℤ-comm (b .args .s) (pos 256), above (b .args .s) (b .pre) (not-lowest c)))
+returns-2 c =
+    let b = c .before in
+    let e = simp (reads, b .fits .s) at (c .if1 .left) in
+    let multiple : b .args .x ≡ b .args .s *ℤ pos 256 = sym (toZ-ofZ w32 (b .args .x) (b .fits .x)) ∙ ap (toZ w32) e ∙ toZ-ofZ w32 (b .args .s *ℤ pos 256) (product-fits b) in
+    (omega arith, λ e. multiple ∙ *ℤ-comm (b .args .s) (pos 256))
 
 pub no-sample-spec : {M : Type 1} → statement M
-no-sample-spec = tie.close (tie.spec mul-if1 returns returns-2 returns-3)
+no-sample-spec = tie.close (tie.spec mul-if1 returns returns-2)

@@ -97,7 +97,7 @@ loop-again c =
       simp length-set (l .inv .1),
       simp length-set (l .inv .2),
       omega (arith, c .no-sample .ensures .0),
-      simp (reads, f) (λ e. let g = found (omega arith) in samples-more (window n) (l .first) (l .second) (l .k) (s n) (omega arith) (omega arith) (l .inv .4 (omega arith)) (g .0 ∙ *ℤ-comm (pos 256) (s n)) (g .1)),
+      simp (reads, f) (λ e. let g = found (omega arith) in samples-more (window n) (l .first) (l .second) (l .k) (s n) (omega arith) (omega arith) (l .inv .4 (omega arith)) (g ∙ *ℤ-comm (pos 256) (s n)) (between n)),
     )
 
 same-length : tie.Need-same-length Inv-loop μ-loop

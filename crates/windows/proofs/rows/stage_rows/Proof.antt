@@ -1,13 +1,18 @@
 -- `windows::rows::stage_rows` meets its contract: the rows of the phases, and behind them phase 0 from its second impulse on. Assumes nothing.
 use mathlib.Core.Path.{_≡_, refl}
-use Prim.Native.Nat.{ℕ, _+_, _*_, _%_, _≤_}
+use mathlib.Core.List.{List}
+use Prim.Native.Nat.{ℕ, _+_, _-_, _*_, _%_, _≤_, _<_}
 use native.Mathlib.Omega.{arith}
 use borrow.Author.Needs.{needs}
-use lib.ListN.{length}
+use lib.IntN.{ℤ, pos, negsuc}
+use lib.ListN.{length, set, length-set}
+use Rattle.arith.specs.Limit.{limit}
+use Rattle.arith.specs.Lists.{at}
 use Rattle.book.specs.Book.{sizesOf}
 use Rattle.book.proofs.Accepted.{Accepted, accepted, sizes-bounded, sizes-room}
 use Rattle.book.proofs.Bounds.{array-low}
-use Rattle.windows.proofs.ImpulseRows.{taps-fit, rows-whole}
+use Rattle.windows.specs.Rows.{rowWidth, Positive, PutAt, PhasesOf, RowsOf}
+use Rattle.windows.proofs.ImpulseRows.{rowWidth-between, taps-fit, Whole, rows-whole, rows-marked, rows-unmarked}
 use Rattle.windows.proofs.rows.stage_rows.Statement.{statement}
 use Rattle.windows.proofs.rows.stage_rows.Tie as tie
 
@@ -24,6 +29,9 @@ module _ (s : tie.Start) where
   taps-bounds : (2 ≤ s .args .taps) × (s .args .taps ≤ 24) × (s .args .taps % 2 ≡ 0)
   taps-bounds = let f = sizes-bounded (s .args .book .now) valid in rw taps-are (f .taps-low, f .taps-high, f .taps-even)
 
+  phases-few : s .args .phases ≤ 128
+  phases-few = rw phases-are (sizes-bounded (s .args .book .now) valid .phases-high)
+
   -- the book holds the impulses of all phases, and of one
   book-room : 5 + s .args .phases * s .args .taps ≤ length (s .args .book .now)
   book-room = rw (phases-are, taps-are) (omega (arith, sizes-room (s .args .book .now) valid (sizesOf (s .args .book .now)) refl .0))
@@ -38,8 +46,8 @@ module _ (c : tie.After-row-width) where
   wide : c .before .args .taps ≤ width
   wide = rw (c .row-width .ensures) (taps-fit (c .before .args .taps) (taps-bounds (c .before) .1))
 
-  -- the table holds a row more than there are phases
-  table-room : c .before .args .phases * width + width ≤ length (c .before .args .table .now)
+  -- the table holds a row more than there are phases, and a word
+  table-room : c .before .args .phases * width + width < length (c .before .args .table .now)
   table-room = rw (c .row-width .ensures) (omega (arith, c .before .pre .3))
 
 row-width-requires : tie.Need-row-width-requires
@@ -72,21 +80,67 @@ put-row-requires c κs =
     let w = c .before .before .before .before .before in
     omega (arith, taps-bounds (w .before), table-room w, wide w)
 
+-- sizes that are the book's
+module _ (b : List ℤ) (a : Accepted b) {phases taps width : ℕ} (e : phases ≡ sizesOf b .phases) (f : taps ≡ sizesOf b .taps) (g : width ≡ rowWidth taps) where
+  staged-whole : {row table table₁ : List ℤ} → PhasesOf b taps width phases table → ((k : ℕ) → k < taps - 1 → at row k ≡ limit (negsuc 32767) (pos 32767) (at b (6 + k)))
+      → PutAt row (phases * width) (taps - 1) table table₁ → phases * width + width < length table₁ → Whole b a table₁
+  staged-whole p words put room = rows-whole b a (rw (g, f, e) at p) (rw f at words) (rw (g, f, e) at put) (rw (← e, ← f, ← g) (omega (arith, room)))
+
+  staged-marked : (table : List ℤ) → Whole b a table → ((q : ℕ) → q < phases + 1 → Positive table (q * width) width) → RowsOf b (set table (length table - 1) (pos 1))
+  staged-marked table whole positive = rows-marked b a table whole (rw (g, f, e) at positive)
+
+-- once the rows are written
+module _ (c : tie.After-put-row) where
+  abbrev r : tie.After-row-of
+  r = c .before .before
+
+  abbrev w : tie.After-row-width
+  w = r .before .before .before .before
+
+  abbrev start : tie.Start
+  start = w .before
+
+  abbrev table : List ℤ
+  table = c .put-row .last .0
+
+  whole : Whole (start .args .book .now) (valid start) table
+  whole =
+      staged-whole (start .args .book .now) (valid start) (phases-are start) (taps-are start) (w .row-width .ensures) (r .before .before .phase-rows .ensures) (r .row-of .ensures) (c .put-row .ensures)
+      (omega (arith, table-room w))
+
+add-lobes : tie.Need-add-lobes
+add-lobes c = omega (arith, phases-few (start (c .before .before)))
+
+lobes-requires : tie.Need-lobes-requires
+lobes-requires c κs =
+    let p = c .before .before in
+    omega (arith, taps-bounds (start p), wide (w p), table-room (w p), rowWidth-between (start p .args .taps), w p .row-width .ensures)
+
+sub-last : tie.Need-sub-last
+sub-last c = omega (arith, table-room (w (c .before .before .before .before)))
+
+mul-table : tie.Need-mul-table
+mul-table c = omega arith
+
+slice-set-of-table : tie.Need-slice-set-of-table
+slice-set-of-table c = omega (arith, table-room (w (c .before .before .before .before)))
+
 same-length : tie.Need-same-length
-same-length c = search needs
+same-length c = simp length-set (omega arith)
 
 returns : tie.Need-returns
 returns c =
-    let r = c .before .before .before in
-    let p = r .before .before in
-    let w = p .before .before in
-    let s = w .before in
-    let e = w .row-width .ensures in
-    rows-whole (s .args .book .now) (valid s)
-    (rw (e, taps-are s, phases-are s) at (p .phase-rows .ensures))
-    (rw (taps-are s) at (r .row-of .ensures))
-    (rw (e, taps-are s, phases-are s) at (c .before .put-row .ensures))
-    (rw (← phases-are s, ← taps-are s) (omega (arith, s .pre .3)))
+    let p = c .before .before .before .before in
+    let s = start p in
+    staged-marked (s .args .book .now) (valid s) (phases-are s) (taps-are s) (w p .row-width .ensures) (table p) (whole p) (c .before .lobes .ensures (c .if1 .taken))
+
+same-length-2 : tie.Need-same-length-2
+same-length-2 c = search needs
+
+returns-2 : tie.Need-returns-2
+returns-2 c =
+    let p = c .before .before .before .before in
+    rows-unmarked (start p .args .book .now) (valid (start p)) (whole p)
 
 pub stage-rows-spec : {M : Type 1} → statement M
 stage-rows-spec =
@@ -99,5 +153,12 @@ stage-rows-spec =
     mul-put-row
     sub-put-row
     put-row-requires
+    add-lobes
+    lobes-requires
+    sub-last
+    mul-table
+    slice-set-of-table
     same-length
-    returns)
+    returns
+    same-length-2
+    returns-2)

@@ -12,7 +12,7 @@ use Rattle.windows.specs.Rows.{rowWidth}
 use Rattle.windows.specs.Parts.{Small, PartsOf}
 use Rattle.windows.specs.Sums.{Readable}
 use Rattle.windows.specs.Runs.{RunOf}
-use Rattle.windows.proofs.RunSums.{readable, parts-sums, parts-value}
+use Rattle.windows.proofs.RunSums.{small-summed, readable, parts-sums, parts-value}
 use borrow.Author.Needs.{needs}
 use Rattle.windows.proofs.runs.part_run.Statement.{statement}
 use Rattle.windows.proofs.runs.part_run.Tie as tie
@@ -53,10 +53,10 @@ module _ (c : tie.After-split) where
   low-small k = omega (arith, parts .low-small k)
 
   high-low : Readable high low (s .args .table .now) width (s .args .count) (s .args .rows .now) (s .args .firsts .now)
-  high-low = subst (λ W. Readable high low (s .args .table .now) W (s .args .count) (s .args .rows .now) (s .args .firsts .now)) (sym width-is) (readable run high-length low-length high-small low-small)
+  high-low = subst (λ W. Readable high low (s .args .table .now) W (s .args .count) (s .args .rows .now) (s .args .firsts .now)) (sym width-is) (readable run high low high-length low-length (small-summed run high high-small) (small-summed run low low-small))
 
   low-high : Readable low high (s .args .table .now) width (s .args .count) (s .args .rows .now) (s .args .firsts .now)
-  low-high = subst (λ W. Readable low high (s .args .table .now) W (s .args .count) (s .args .rows .now) (s .args .firsts .now)) (sym width-is) (readable run low-length high-length low-small high-small)
+  low-high = subst (λ W. Readable low high (s .args .table .now) W (s .args .count) (s .args .rows .now) (s .args .firsts .now)) (sym width-is) (readable run low high low-length high-length (small-summed run low low-small) (small-summed run high high-small))
 
 row-width-requires : tie.Need-row-width-requires
 row-width-requires c κs = search needs

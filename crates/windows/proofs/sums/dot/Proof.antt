@@ -11,8 +11,9 @@ use Rattle.arith.specs.Lists.{at}
 use Rattle.arith.specs.Sum.{sum}
 use Rattle.arith.proofs.Bits.{reads, toZ-ofZ-from}
 use Rattle.arith.proofs.Integers.{abs-*-≤, abs-fits}
-use Rattle.windows.specs.Sums.{dotSum}
-use Rattle.windows.proofs.Dots.{dotSum-more, dotSum-fits}
+use Rattle.arith.proofs.Linear.{linear}
+use Rattle.windows.specs.Sums.{dotSum, Fits32}
+use Rattle.windows.proofs.Dots.{dotSum-more}
 use Rattle.windows.proofs.sums.dot.Statement.{statement}
 use Rattle.windows.proofs.sums.dot.Tie as tie
 
@@ -25,6 +26,9 @@ abbrev μ-loop : tie.MeasureT-loop
 loop-holds : tie.Need-loop-holds Inv-loop μ-loop
 unfolding dotSum sum
 loop-holds c = (omega arith, refl)
+
+fits-32 : {x : ℤ} → Fits32 x → SFits w32 x
+fits-32 h = simp linear (omega (arith, simp linear at h))
 
 -- in a turn, when both numbers are read
 module _ (c : tie.After-sum2 Inv-loop μ-loop) where
@@ -47,13 +51,13 @@ module _ (c : tie.After-sum2 Inv-loop μ-loop) where
   y-fits = record { sfits = c .sum2 .given }
 
   product-fits : SFits w32 (x *ℤ y)
-  product-fits = abs-fits w32 (x *ℤ y) (omega (arith, abs-*-≤ x y (s .pre .small (s .args .first + t .loop .k)) (natAbs-le y (y-fits .sfits))))
+  product-fits = abs-fits w32 (x *ℤ y) (omega (arith, abs-*-≤ x y (natAbs-le x (x-fits .sfits)) (natAbs-le y (y-fits .sfits))))
 
   abbrev sumTo : ℕ → ℤ
   sumTo n = dotSum (s .args .words .now) (s .args .first) (s .args .table .now) (s .args .row) n
 
   sum-fits : (n : ℕ) → n ≤ s .args .width → SFits w32 (sumTo n)
-  sum-fits = dotSum-fits (s .args .words .now) (s .args .first) (s .args .table .now) (s .args .row) (s .args .width) (s .pre)
+  sum-fits n h = fits-32 (s .pre .fits n h)
 
   more : sumTo (t .loop .k + 1) ≡ sumTo (t .loop .k) +ℤ x *ℤ y
   more = dotSum-more (s .args .words .now) (s .args .first) (s .args .table .now) (s .args .row) (t .loop .k)
@@ -105,7 +109,7 @@ returns c =
     let s = c .before .before in
     let a = s .args in
     let e : c .before .loop .k ≡ a .width = omega arith in
-    let fits = dotSum-fits (a .words .now) (a .first) (a .table .now) (a .row) (a .width) (s .pre) (a .width) (omega arith) in
+    let fits = fits-32 (s .pre .fits (a .width) (omega arith)) in
     simp (c .before .loop .inv .1, e, reads, fits) refl
 
 pub dot-spec : {M : Type 1} → statement M
