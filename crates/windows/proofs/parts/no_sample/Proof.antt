@@ -1,15 +1,11 @@
 -- `windows::parts::no_sample` meets its contract: the code compares bits of numbers that fit. Assumes nothing.
 use mathlib.Core.Path.{_≡_, sym, ap, _∙_}
-use mathlib.Core.Logic.{_⊎_, inl, inr}
-use Prim.Native.Nat.{_≤_}
 use native.Mathlib.Omega.{arith}
-use lib.IntN.{ℤ, pos, negsuc, natAbs, _*ℤ_, *ℤ-comm}
-use lib.Signed.{_≤ℤ_, _<ℤ_}
+use lib.IntN.{ℤ, pos, _*ℤ_, *ℤ-comm}
 use mir.Syntax.{w32}
-use mir.Val.{SFits, toZ, ofZ}
+use mir.Val.{SFits, toZ}
 use mir.ValLaws.{toZ-ofZ}
 use Rattle.arith.proofs.Bits.{reads}
-use Rattle.arith.proofs.Integers.{≤ℤ-or-<ℤ, abs-≤}
 use Rattle.arith.proofs.Linear.{linear}
 use Rattle.windows.proofs.parts.no_sample.Statement.{statement}
 use Rattle.windows.proofs.parts.no_sample.Tie as tie

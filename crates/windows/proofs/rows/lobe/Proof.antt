@@ -1,5 +1,4 @@
 -- `windows::rows::lobe` meets its contract: if neither number is positive, nor is their sum. Assumes nothing.
-use mathlib.Core.Path.{_≡_}
 use mathlib.Core.Logic.{_⊎_, inl, inr}
 use Prim.Native.Nat.{_-_}
 use native.Mathlib.Omega.{arith}
