@@ -8,17 +8,17 @@ ghost use Rattle.arith.specs.Lists.{at, part, overwrite};
 ghost use Rattle.refusals.specs.Refusals.{playNumber, pointBound};
 ghost use Rattle.player.specs.Calls.{played, playAnswer};
 ghost use Rattle.values.specs.Layout.{LayoutOf};
-ghost use Rattle.windows.specs.Rows.{RowsOf};
+ghost use Rattle.rows.specs.Rows.{RowsOf};
 ghost use Rattle.player.specs.Inner.{lineOf};
 use crate::PlayAnswer;
 use crate::Voice;
 use decimation::write_outputs;
 use multiplies::block_multiplies;
 use points::next_points;
+use rows::row_width;
+use rows::stage_rows;
 use values::layout::Layout;
 use values::layout::layout_of;
-use windows::rows::row_width;
-use windows::rows::stage_rows;
 
 // The line before a run: a history, widened to 64 bits, from place 128 on.
 fn line_of(history: [i32; 81]) -> [i64; 209]

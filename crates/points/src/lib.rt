@@ -6,7 +6,7 @@ ghost use Prim.Native.Nat.{_-_, _*_, _≤_};
 ghost use lib.ListN.{length};
 ghost use Rattle.arith.specs.Lists.{overwrite};
 ghost use Rattle.values.specs.Layout.{LayoutOf};
-ghost use Rattle.windows.specs.Rows.{RowsOf};
+ghost use Rattle.rows.specs.Rows.{RowsOf};
 ghost use Rattle.control.specs.Valid.{Valid};
 ghost use Rattle.positions.specs.Runs.{controlAfter};
 ghost use Rattle.multiplies.specs.Inner.{runValues};

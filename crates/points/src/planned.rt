@@ -9,7 +9,7 @@ ghost use Rattle.arith.specs.Lists.{at, tabulate, overwrite};
 ghost use Rattle.control.specs.declared.Plan.{Plan};
 ghost use Rattle.positions.specs.Runs.{runPlan};
 ghost use Rattle.values.specs.Layout.{LayoutOf};
-ghost use Rattle.windows.specs.Rows.{RowsOf};
+ghost use Rattle.rows.specs.Rows.{RowsOf};
 ghost use Rattle.points.specs.Points.{point};
 ghost use Rattle.points.specs.Inner.{faded};
 use control::Plan;

@@ -14,7 +14,7 @@ use Rattle.arith.proofs.Linear.{linear}
 use Rattle.arith.proofs.Ring.{products, terms}
 use Rattle.arith.proofs.Sum.{sum-ext, sum-more, sum-+, sum-*, sum-zero, sum-split, sum-abs-*, total-more, total-mono}
 use Rattle.windows.specs.Parts.{Small, Samples}
-use Rattle.windows.specs.Rows.{Positive}
+use Rattle.rows.specs.Rows.{Positive}
 use Rattle.windows.specs.Sums.{dotSum, Fits32}
 
 -- and one product more

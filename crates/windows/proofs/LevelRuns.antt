@@ -16,11 +16,11 @@ use Rattle.values.specs.Values.{limitedWord, unit, phaseAt, offsetAt, levelValu
 use Rattle.values.specs.Inner.{phaseTotal}
 use Rattle.values.proofs.Values.{unit-pos, phase-below}
 use Rattle.values.proofs.Phases.{word-units, levelValue-phases}
-use Rattle.windows.specs.Rows.{rowWidth, RowsOf}
+use Rattle.rows.specs.Rows.{rowWidth, RowsOf}
 use Rattle.windows.specs.Places.{PlacesOf}
 use Rattle.windows.specs.Sums.{dotSum, mixedValue}
 use Rattle.windows.specs.Runs.{RowFits, RunOf, runValue}
-use Rattle.windows.proofs.ImpulseRows.{row-tap, row-rest, row-total}
+use Rattle.rows.proofs.ImpulseRows.{row-tap, row-rest, row-total}
 use Rattle.windows.proofs.Staged.{staged-small}
 
 -- ---- a position's distance from the beginning of a window, in 2^-32 words

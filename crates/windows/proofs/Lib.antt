@@ -1,5 +1,4 @@
 pub mod Dots
-pub mod ImpulseRows
 pub mod RunSums
 pub mod Staged
 pub mod WordParts

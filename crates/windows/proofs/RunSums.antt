@@ -7,12 +7,12 @@ use native.Mathlib.Omega.{arith}
 use lib.IntN.{ℤ, pos, natAbs, _+ℤ_, _*ℤ_}
 use lib.ListN.{length, getD}
 use Rattle.arith.specs.Lists.{at}
-use Rattle.windows.specs.Rows.{rowWidth, Marked}
+use Rattle.rows.specs.Rows.{rowWidth, Marked}
 use Rattle.windows.specs.Parts.{Within, Small, Samples, PartsOf, SamplesOf}
 use Rattle.windows.specs.Sums.{dotSum, Fits32, Summable, Readable, sumHere, sumNext, mixedValue, PartSums, partsValue}
 use Rattle.windows.specs.Runs.{RowFits, RunOf, runValue}
 use Rattle.windows.proofs.Dots.{dotSum-bound, small-fits, samples-fit, dotSum-rest, dotSum-scaled, dotSum-parts}
-use Rattle.windows.proofs.ImpulseRows.{rowWidth-between, taps-fit}
+use Rattle.rows.proofs.ImpulseRows.{rowWidth-between, taps-fit}
 
 module _ {window table : List ℤ} {N reach n : ℕ} {rows firsts offsets : List ℕ} (run : RunOf window table N reach n rows firsts offsets) where
   abbrev W : ℕ

@@ -6,7 +6,7 @@ use lib.IntN.{ℤ, pos, natAbs}
 use lib.ListN.{length, getD}
 use Rattle.arith.specs.Lists.{at}
 use Rattle.arith.specs.Sum.{total}
-use Rattle.windows.specs.Rows.{rowWidth, Positive, Marked}
+use Rattle.rows.specs.Rows.{rowWidth, Positive, Marked}
 use Rattle.windows.specs.Sums.{dotSum, mixedValue}
 
 -- a row of W coefficients from place r on, of which N count

@@ -1,6 +1,5 @@
 mod parts; // words in 16-bit parts
 mod staging; // the words that a run reads
-pub mod rows; // a book's impulses in rows of 16-bit words
 mod places; // where each value's coefficients and words begin
 mod sums; // sums of products, and the values that they make
 mod runs; // the values of a run, from the words of its window

@@ -8,12 +8,12 @@ ghost use Rattle.book.specs.Book.{sizesOf};
 ghost use Rattle.book.specs.Check.{bookNumber};
 ghost use Rattle.values.specs.Values.{unit, levelValue, value};
 ghost use Rattle.values.specs.Layout.{LayoutOf};
-ghost use Rattle.windows.specs.Rows.{RowsOf};
+ghost use Rattle.rows.specs.Rows.{RowsOf};
 use crate::places::places;
-use crate::rows::row_width;
 use crate::runs::part_run;
 use crate::runs::sample_run;
 use crate::staging::staged;
+use rows::row_width;
 use values::layout::Layout;
 use values::layout::level_words;
 

@@ -9,8 +9,8 @@ use lib.ListN.{length}
 use Rattle.arith.proofs.Parts.{zeros-every}
 use Rattle.book.proofs.Accepted.{Accepted, accepted, sizes-bounded}
 use Rattle.values.specs.Layout.{LayoutOf}
-use Rattle.windows.specs.Rows.{rowWidth}
-use Rattle.windows.proofs.ImpulseRows.{rowWidth-between}
+use Rattle.rows.specs.Rows.{rowWidth}
+use Rattle.rows.proofs.ImpulseRows.{rowWidth-between}
 use Rattle.player.proofs.Accepted.{PlayAccepted, play-accepted}
 use borrow.Author.Needs.{needs}
 use Rattle.player.proofs.outputs.fill.Statement.{statement}

@@ -8,7 +8,7 @@ use lib.ListN.{length}
 use Rattle.arith.specs.Lists.{at, overwrite}
 use Rattle.arith.proofs.Lists.{tabulate-ext}
 use Rattle.arith.proofs.Parts.{zeros-every}
-use Rattle.windows.specs.Rows.{rowWidth}
+use Rattle.rows.specs.Rows.{rowWidth}
 use Rattle.windows.specs.Parts.{Small, PartsOf}
 use Rattle.windows.specs.Sums.{Readable}
 use Rattle.windows.specs.Runs.{RunOf}

@@ -11,7 +11,7 @@ use Rattle.arith.specs.Lists.{at, overwrite}
 use Rattle.arith.proofs.Lists.{tabulate-ext}
 use Rattle.arith.proofs.Linear.{linear}
 use Rattle.arith.proofs.Parts.{zeros-every}
-use Rattle.windows.specs.Rows.{rowWidth, Marked}
+use Rattle.rows.specs.Rows.{rowWidth, Marked}
 use Rattle.windows.specs.Parts.{Sample, SamplesOf}
 use Rattle.windows.specs.Sums.{Readable}
 use Rattle.windows.specs.Runs.{RunOf}

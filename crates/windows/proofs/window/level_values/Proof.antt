@@ -13,9 +13,9 @@ use Rattle.arith.proofs.Lists.{tabulate-ext}
 use Rattle.book.specs.Book.{sizesOf}
 use Rattle.book.proofs.Accepted.{Accepted, accepted, sizes-bounded}
 use Rattle.values.specs.Values.{unit, offsetAt, levelValue}
-use Rattle.windows.specs.Rows.{rowWidth}
+use Rattle.rows.specs.Rows.{rowWidth}
 use Rattle.windows.specs.Runs.{runValue}
-use Rattle.windows.proofs.ImpulseRows.{rowWidth-between}
+use Rattle.rows.proofs.ImpulseRows.{rowWidth-between}
 use Rattle.windows.proofs.LevelRuns.{distance-words, LevelRun, level-run}
 use borrow.Author.Needs.{needs}
 use Rattle.windows.proofs.window.level_values.Statement.{statement}

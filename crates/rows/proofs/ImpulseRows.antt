@@ -24,7 +24,7 @@ use Rattle.book.specs.Check.{wordsInRange, coefficientsInRange, phaseSum}
 use Rattle.book.proofs.Accepted.{Accepted, sizes-bounded, phaseSum-bound}
 use Rattle.book.proofs.Bounds.{row-below}
 use Rattle.book.proofs.Parts.{impulse-stored, impulse-past, impulse-end}
-use Rattle.windows.specs.Rows.{rowWidth, narrowWord, rowWord, Positive, PutAt, PhasesOf, RowsOf}
+use Rattle.rows.specs.Rows.{rowWidth, narrowWord, rowWord, Positive, PutAt, PhasesOf, RowsOf}
 
 -- ---- a row, written word by word
 

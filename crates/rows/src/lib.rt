@@ -12,7 +12,7 @@ ghost use Rattle.arith.specs.Limit.{limit};
 ghost use Rattle.arith.specs.Lists.{at};
 ghost use Rattle.book.specs.Book.{sizesOf};
 ghost use Rattle.book.specs.Check.{bookNumber};
-ghost use Rattle.windows.specs.Rows.{rowWidth, Positive, PutAt, PhasesFit, PhasesOf, RowsOf};
+ghost use Rattle.rows.specs.Rows.{rowWidth, Positive, PutAt, PhasesFit, PhasesOf, RowsOf};
 use arith::narrow;
 
 // The width of the rows of a book with so many taps.

@@ -1,14 +1,14 @@
--- `windows::rows::rows_by` meets its contract. The loop's invariant: the rows of the phases passed are written, and 0 stands behind them.
+-- `rows::rows_by` meets its contract. The loop's invariant: the rows of the phases passed are written, and 0 stands behind them.
 -- Assumes nothing.
 use mathlib.Core.Path.{_≡_, refl, subst}
 use Prim.Native.Nat.{ℕ, _+_, _-_, _*_, _≤_}
 use native.Mathlib.Nat.{mul-le-mul-right}
 use native.Mathlib.Omega.{arith}
 use lib.ListN.{length}
-use Rattle.windows.specs.Rows.{PhasesOf}
-use Rattle.windows.proofs.ImpulseRows.{phases-none, phases-more}
-use Rattle.windows.proofs.rows.rows_by.Statement.{statement}
-use Rattle.windows.proofs.rows.rows_by.Tie as tie
+use Rattle.rows.specs.Rows.{PhasesOf}
+use Rattle.rows.proofs.ImpulseRows.{phases-none, phases-more}
+use Rattle.rows.proofs.rows_by.Statement.{statement}
+use Rattle.rows.proofs.rows_by.Tie as tie
 
 abbrev Inv-loop : tie.InvT-loop
 Inv-loop table₀ book phases taps width q₀ table q = (q ≤ phases) × (length table ≡ length table₀) × PhasesOf book taps width q table

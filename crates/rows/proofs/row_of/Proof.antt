@@ -1,4 +1,4 @@
--- `windows::rows::row_of` meets its contract. The loop's invariant: the words passed are written. Assumes nothing.
+-- `rows::row_of` meets its contract. The loop's invariant: the words passed are written. Assumes nothing.
 use mathlib.Core.Path.{_≡_, refl}
 use Prim.Native.Nat.{ℕ, _+_, _-_, _≤_, _<_}
 use native.Mathlib.Omega.{arith}
@@ -10,8 +10,8 @@ use Rattle.arith.specs.Lists.{at}
 use Rattle.arith.specs.Limit.{limit}
 use Rattle.arith.proofs.Bits.{reads}
 use Rattle.arith.proofs.Lists.{filled-more}
-use Rattle.windows.proofs.rows.row_of.Statement.{statement}
-use Rattle.windows.proofs.rows.row_of.Tie as tie
+use Rattle.rows.proofs.row_of.Statement.{statement}
+use Rattle.rows.proofs.row_of.Tie as tie
 
 abbrev Inv-loop : tie.InvT-loop
 Inv-loop book from taps row₀ k₀ row k =

@@ -1,4 +1,4 @@
--- `windows::rows::phase_rows` meets its contract: in each arm the constants are the taps and the width. Assumes nothing.
+-- `rows::phase_rows` meets its contract: in each arm the constants are the taps and the width. Assumes nothing.
 use mathlib.Core.Path.{_≡_, ap, _∙_}
 use mathlib.Core.List.{List}
 use Prim.Native.Nat.{ℕ, zero, suc, _*_, _%_, _≤_}
@@ -6,9 +6,9 @@ use native.Mathlib.Nat.{le-antisymm}
 use native.Mathlib.Omega.{arith}
 use borrow.Author.Needs.{needs}
 use lib.IntN.{ℤ}
-use Rattle.windows.specs.Rows.{rowWidth, PhasesFit, PhasesOf}
-use Rattle.windows.proofs.rows.phase_rows.Statement.{statement}
-use Rattle.windows.proofs.rows.phase_rows.Tie as tie
+use Rattle.rows.specs.Rows.{rowWidth, PhasesFit, PhasesOf}
+use Rattle.rows.proofs.phase_rows.Statement.{statement}
+use Rattle.rows.proofs.phase_rows.Tie as tie
 
 -- the arm for n taps
 module _ (s : tie.Start) {n : ℕ} (e : s .args .taps ≡ n) where

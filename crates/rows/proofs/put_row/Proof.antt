@@ -1,4 +1,4 @@
--- `windows::rows::put_row` meets its contract. The loop's invariant: the words passed are written, and no other. Assumes nothing.
+-- `rows::put_row` meets its contract. The loop's invariant: the words passed are written, and no other. Assumes nothing.
 use mathlib.Core.Path.{_≡_, refl}
 use Prim.Native.Nat.{_-_, _≤_}
 use native.Mathlib.Omega.{arith}
@@ -7,10 +7,10 @@ use mir.Syntax.{w16}
 use mir.Val.{SFits}
 use Rattle.arith.specs.Lists.{at}
 use Rattle.arith.proofs.Bits.{reads}
-use Rattle.windows.specs.Rows.{PutAt}
-use Rattle.windows.proofs.ImpulseRows.{put-none, put-more}
-use Rattle.windows.proofs.rows.put_row.Statement.{statement}
-use Rattle.windows.proofs.rows.put_row.Tie as tie
+use Rattle.rows.specs.Rows.{PutAt}
+use Rattle.rows.proofs.ImpulseRows.{put-none, put-more}
+use Rattle.rows.proofs.put_row.Statement.{statement}
+use Rattle.rows.proofs.put_row.Tie as tie
 
 abbrev Inv-loop : tie.InvT-loop
 Inv-loop table₀ to taps row k₀ table k = (k ≤ taps) × (length table ≡ length table₀) × PutAt row to k table₀ table

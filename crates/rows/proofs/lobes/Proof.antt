@@ -1,4 +1,4 @@
--- `windows::rows::lobes` meets its contract. The loop's invariant: each row passed has a positive coefficient. Assumes nothing.
+-- `rows::lobes` meets its contract. The loop's invariant: each row passed has a positive coefficient. Assumes nothing.
 use mathlib.Core.Path.{_≡_}
 use mathlib.Core.List.{List}
 use mathlib.Core.Logic.{_⊎_, inl, inr}
@@ -11,9 +11,9 @@ use lib.IntN.{ℤ, pos}
 use lib.ListN.{length}
 use lib.Signed.{_≤ℤ_}
 use Rattle.arith.specs.Lists.{at}
-use Rattle.windows.specs.Rows.{Positive}
-use Rattle.windows.proofs.rows.lobes.Statement.{statement}
-use Rattle.windows.proofs.rows.lobes.Tie as tie
+use Rattle.rows.specs.Rows.{Positive}
+use Rattle.rows.proofs.lobes.Statement.{statement}
+use Rattle.rows.proofs.lobes.Tie as tie
 
 abbrev Inv-loop : tie.InvT-loop
 Inv-loop table count taps width middle₀ q₀ middle q = (q ≤ count) × (middle ≡ q * width + taps / 2) × ((i : ℕ) → i < q → Positive table (i * width) width)

@@ -1,4 +1,4 @@
--- `windows::rows::stage_rows` meets its contract: the rows of the phases, and behind them phase 0 from its second impulse on. Assumes nothing.
+-- `rows::stage_rows` meets its contract: the rows of the phases, and behind them phase 0 from its second impulse on. Assumes nothing.
 use mathlib.Core.Path.{_≡_, refl}
 use mathlib.Core.List.{List}
 use Prim.Native.Nat.{ℕ, _+_, _-_, _*_, _%_, _≤_, _<_}
@@ -11,10 +11,10 @@ use Rattle.arith.specs.Lists.{at}
 use Rattle.book.specs.Book.{sizesOf}
 use Rattle.book.proofs.Accepted.{Accepted, accepted, sizes-bounded, sizes-room}
 use Rattle.book.proofs.Bounds.{array-low}
-use Rattle.windows.specs.Rows.{rowWidth, Positive, PutAt, PhasesOf, RowsOf}
-use Rattle.windows.proofs.ImpulseRows.{rowWidth-between, taps-fit, Whole, rows-whole, rows-marked, rows-unmarked}
-use Rattle.windows.proofs.rows.stage_rows.Statement.{statement}
-use Rattle.windows.proofs.rows.stage_rows.Tie as tie
+use Rattle.rows.specs.Rows.{rowWidth, Positive, PutAt, PhasesOf, RowsOf}
+use Rattle.rows.proofs.ImpulseRows.{rowWidth-between, taps-fit, Whole, rows-whole, rows-marked, rows-unmarked}
+use Rattle.rows.proofs.stage_rows.Statement.{statement}
+use Rattle.rows.proofs.stage_rows.Tie as tie
 
 module _ (s : tie.Start) where
   valid : Accepted (s .args .book .now)

@@ -1,4 +1,4 @@
--- `windows::rows::lobe` meets its contract: if neither number is positive, nor is their sum. Assumes nothing.
+-- `rows::lobe` meets its contract: if neither number is positive, nor is their sum. Assumes nothing.
 use mathlib.Core.Logic.{_⊎_, inl, inr}
 use Prim.Native.Nat.{_-_}
 use native.Mathlib.Omega.{arith}
@@ -11,8 +11,8 @@ use Rattle.arith.specs.Lists.{at}
 use Rattle.arith.proofs.Bits.{reads, toZ-ofZ-from}
 use Rattle.arith.proofs.Integers.{≤ℤ-or-<ℤ}
 use Rattle.arith.proofs.Linear.{linear, le-yes}
-use Rattle.windows.proofs.rows.lobe.Statement.{statement}
-use Rattle.windows.proofs.rows.lobe.Tie as tie
+use Rattle.rows.proofs.lobe.Statement.{statement}
+use Rattle.rows.proofs.lobe.Tie as tie
 
 one-positive : (x y : ℤ) → pos 1 ≤ℤ (x +ℤ y) → (pos 1 ≤ℤ x) ⊎ (pos 1 ≤ℤ y)
 one-positive x y h = go (≤ℤ-or-<ℤ (pos 1) x)

@@ -1,8 +1,8 @@
--- `windows::rows::row_width` meets its contract: its two tests are those of `rowWidth`. Assumes nothing.
+-- `rows::row_width` meets its contract: its two tests are those of `rowWidth`. Assumes nothing.
 use borrow.Author.Tests.{le-leb, lt-leb}
-use Rattle.windows.specs.Rows.{rowWidth}
-use Rattle.windows.proofs.rows.row_width.Statement.{statement}
-use Rattle.windows.proofs.rows.row_width.Tie as tie
+use Rattle.rows.specs.Rows.{rowWidth}
+use Rattle.rows.proofs.row_width.Statement.{statement}
+use Rattle.rows.proofs.row_width.Tie as tie
 
 returns : tie.Need-returns
 unfolding rowWidth
