@@ -1,9 +1,9 @@
 -- The rows of a book: what each write leaves, how wide they are, and what an accepted book's rows add up to. Assumes nothing.
-use mathlib.Core.Path.{_≡_, refl, sym, ap, _∙_}
+use mathlib.Core.Path.{_≡_, refl, sym, ap, subst, _∙_}
 use mathlib.Core.Bool.{Bool, true, false, cond}
 use mathlib.Core.List.{List}
 use mathlib.Core.Logic.{_⊎_, inl, inr}
-use Prim.Native.Nat.{ℕ, suc, _+_, _-_, _*_, _≤_, _<_}
+use Prim.Native.Nat.{ℕ, suc, _+_, _-_, _*_, _/_, _%_, _≤_, _<_}
 use native.Mathlib.Nat.{mul-le-mul-right}
 use native.Mathlib.Decide.{ℕ-discrete, decLt}
 use native.Mathlib.Omega.{arith}
@@ -24,7 +24,7 @@ use Rattle.book.specs.Check.{wordsInRange, coefficientsInRange, phaseSum}
 use Rattle.book.proofs.Accepted.{Accepted, sizes-bounded, phaseSum-bound}
 use Rattle.book.proofs.Bounds.{row-below}
 use Rattle.book.proofs.Parts.{impulse-stored, impulse-past, impulse-end}
-use Rattle.rows.specs.Rows.{rowWidth, narrowWord, rowWord, Positive, PutAt, PhasesOf, RowsOf}
+use Rattle.rows.specs.Rows.{rowWidth, narrowed, sourceWord, rowWord, Positive, PutAt, PhasesOf, RowsOf}
 
 -- ---- a row, written word by word
 
@@ -50,34 +50,51 @@ put-more {row} {a} {k} {table₀} {table} p room v e = record {
 abbrev narrow : ℤ → ℤ
 narrow = limit (negsuc 32767) (pos 32767)
 
-module _ (b : List ℤ) (N q k : ℕ) where
-  narrowWord-tap : k < N → narrowWord b N q k ≡ narrow (at b (5 + (q * N + k)))
-  unfolding narrowWord
-  narrowWord-tap h = simp (lt-ltb k N h)
+module _ (source : ℕ → ℤ) (N q k : ℕ) where
+  sourceWord-tap : k < N → sourceWord source N q k ≡ source (q * N + k)
+  unfolding sourceWord
+  sourceWord-tap h = simp (lt-ltb k N h)
 
-  narrowWord-rest : N ≤ k → narrowWord b N q k ≡ pos 0
-  unfolding narrowWord
-  narrowWord-rest h = simp (le-ltb k N h)
+  sourceWord-rest : N ≤ k → sourceWord source N q k ≡ pos 0
+  unfolding sourceWord
+  sourceWord-rest h = simp (le-ltb k N h)
 
-pub phases-none : (b : List ℤ) (N W : ℕ) (table : List ℤ) → ((j : ℕ) → at table j ≡ pos 0) → PhasesOf b N W 0 table
-phases-none b N W table zeros = record { word = λ q k h l. absurd (omega arith); rest = λ j h. zeros j }
+-- a row of a book's words
+pub narrowed-row : (b : List ℤ) (i k : ℕ) {x : ℤ} → x ≡ narrow (at b (5 + i + k)) → x ≡ narrowed b (i + k)
+narrowed-row b i k e = let place : 5 + i + k ≡ 5 + (i + k) = omega arith in e ∙ ap (λ n. narrow (at b n)) place
 
-pub phases-more : {b : List ℤ} {N W q : ℕ} {row table table₁ : List ℤ} → PhasesOf b N W q table → N ≤ W → ((k : ℕ) → k < N → at row k ≡ narrow (at b (5 + q * N + k)))
-    → PutAt row (q * W) N table table₁ → PhasesOf b N W (q + 1) table₁
-phases-more {b} {N} {W} {q} {row} {table} {table₁} p wide words put = record {
+pub phases-none : (source : ℕ → ℤ) (N W : ℕ) (table : List ℤ) → ((j : ℕ) → at table j ≡ pos 0) → PhasesOf source N W 0 table
+phases-none source N W table zeros = record { word = λ q k h l. absurd (omega arith); rest = λ j h. zeros j }
+
+pub phases-more : {source : ℕ → ℤ} {N W q : ℕ} {row table table₁ : List ℤ} → PhasesOf source N W q table → N ≤ W → ((k : ℕ) → k < N → at row k ≡ source (q * N + k))
+    → PutAt row (q * W) N table table₁ → PhasesOf source N W (q + 1) table₁
+phases-more {source} {N} {W} {q} {row} {table} {table₁} p wide words put = record {
   word = λ i k h l. at-row i k h l (ℕ-discrete i q) (decLt k N);
   rest = λ j h. put .behind j (omega arith) ∙ p .rest j (omega arith);
 }
   where
-    at-row : (i k : ℕ) → i < q + 1 → k < W → Dec (i ≡ q) → Dec (k < N) → at table₁ (i * W + k) ≡ narrowWord b N i k
-    at-row i k h l (yes d) (yes m) =
-        let place : 5 + q * N + k ≡ 5 + (q * N + k) = omega arith in
-        rw d (put .word k m ∙ words k m ∙ ap (λ n. narrow (at b n)) place ∙ sym (narrowWord-tap b N q k m))
+    at-row : (i k : ℕ) → i < q + 1 → k < W → Dec (i ≡ q) → Dec (k < N) → at table₁ (i * W + k) ≡ sourceWord source N i k
+    at-row i k h l (yes d) (yes m) = rw d (put .word k m ∙ words k m ∙ sym (sourceWord-tap source N q k m))
     at-row i k h l (yes d) (no m) =
-        rw d (put .behind (q * W + k) (omega arith) ∙ p .rest (q * W + k) (omega arith) ∙ sym (narrowWord-rest b N q k (omega arith)))
+        rw d (put .behind (q * W + k) (omega arith) ∙ p .rest (q * W + k) (omega arith) ∙ sym (sourceWord-rest source N q k (omega arith)))
     at-row i k h l (no n) d =
         let below : i < q = omega arith in
         put .before (i * W + k) (omega (arith, mul-le-mul-right W below)) ∙ p .word i k below l
+
+-- ---- rows of eight words are two rows of four
+
+pub halves : {source : ℕ → ℤ} {h : ℕ} {words table : List ℤ} → PhasesOf source 8 8 h words → PhasesOf (at words) 4 8 (2 * h) table → PhasesOf source 4 8 (2 * h) table
+halves {source} {h} {words} p t = record { word = λ q k m l. t .word q k m l ∙ same q k m (decLt k 4); rest = t .rest }
+  where
+    word : (j : ℕ) → j < h * 8 → at words j ≡ source j
+    word j m =
+        let place : j / 8 * 8 + j % 8 ≡ j = omega arith in
+        let e : at words (j / 8 * 8 + j % 8) ≡ source (j / 8 * 8 + j % 8) = p .word (j / 8) (j % 8) (omega arith) (omega arith) ∙ sourceWord-tap source 8 (j / 8) (j % 8) (omega arith) in
+        subst (λ i. at words i ≡ source i) place e
+
+    same : (q k : ℕ) → q < 2 * h → Dec (k < 4) → sourceWord (at words) 4 q k ≡ sourceWord source 4 q k
+    same q k m (yes l) = sourceWord-tap (at words) 4 q k l ∙ word (q * 4 + k) (omega arith) ∙ sym (sourceWord-tap source 4 q k l)
+    same q k m (no n) = let l : 4 ≤ k = omega arith in sourceWord-rest (at words) 4 q k l ∙ sym (sourceWord-rest source 4 q k l)
 
 -- ---- the width of a row
 
@@ -143,13 +160,13 @@ module _ (b : List ℤ) (a : Accepted b) where
     unfolding rowWord
     rowWord-rest h = simp (le-ltb k N h)
 
-    narrow-row : q < M → narrowWord b N q k ≡ rowWord b q k
+    narrow-row : q < M → sourceWord (narrowed b) N q k ≡ rowWord b q k
     unfolding impulseWord
     narrow-row h = go (decLt k N)
       where
-        go : Dec (k < N) → narrowWord b N q k ≡ rowWord b q k
-        go (yes l) = narrowWord-tap b N q k l ∙ narrow-same (q * N + k) (row-below h l) ∙ sym (impulse-stored b q k h) ∙ sym (rowWord-tap l)
-        go (no n) = let l : N ≤ k = omega arith in narrowWord-rest b N q k l ∙ sym (rowWord-rest l)
+        go : Dec (k < N) → sourceWord (narrowed b) N q k ≡ rowWord b q k
+        go (yes l) = sourceWord-tap (narrowed b) N q k l ∙ narrow-same (q * N + k) (row-below h l) ∙ sym (impulse-stored b q k h) ∙ sym (rowWord-tap l)
+        go (no n) = let l : N ≤ k = omega arith in sourceWord-rest (narrowed b) N q k l ∙ sym (rowWord-rest l)
 
   -- what the rows are, and that 0 stands behind them
   pub record Whole (table : List ℤ) : Type 0 where
@@ -158,7 +175,7 @@ module _ (b : List ℤ) (a : Accepted b) where
     pub rest : at table (length table - 1) ≡ pos 0
 
   -- behind the phases' rows comes that of phase 0, from its second impulse on
-  pub rows-whole : {row table table₁ : List ℤ} → PhasesOf b N W M table → ((k : ℕ) → k < N - 1 → at row k ≡ narrow (at b (6 + k))) → PutAt row (M * W) (N - 1) table table₁
+  pub rows-whole : {row table table₁ : List ℤ} → PhasesOf (narrowed b) N W M table → ((k : ℕ) → k < N - 1 → at row k ≡ narrow (at b (6 + k))) → PutAt row (M * W) (N - 1) table table₁
       → (M + 1) * W < length table₁ → Whole table₁
   unfolding impulseWord
   rows-whole {row} {table} {table₁} p words put room = record {

@@ -15,9 +15,13 @@ use Rattle.book.specs.Book.{sizesOf, impulse}
 unfoldable pub rowWidth : ℕ → ℕ
 rowWidth N = cond (leb N 8) 8 (cond (leb N 16) 16 32)
 
--- word k of row q, where a book has N taps: a word of the book, limited to 16 bits, and 0 behind the last
-unfoldable pub narrowWord : List ℤ → ℕ → ℕ → ℕ → ℤ
-narrowWord b N q k = cond (ltb k N) (limit (negsuc 32767) (pos 32767) (at b (5 + (q * N + k)))) (pos 0)
+-- the words of a book behind its sizes, limited to 16 bits
+abbrev pub narrowed : List ℤ → ℕ → ℤ
+narrowed b i = limit (negsuc 32767) (pos 32767) (at b (5 + i))
+
+-- word k of row q of words that lie one behind another, N in each row, and 0 behind the last
+unfoldable pub sourceWord : (ℕ → ℤ) → ℕ → ℕ → ℕ → ℤ
+sourceWord source N q k = cond (ltb k N) (source (q * N + k)) (pos 0)
 
 -- the same of a book that is accepted: an impulse
 unfoldable pub rowWord : List ℤ → ℕ → ℕ → ℤ
@@ -37,9 +41,9 @@ pub record PhasesFit (b : List ℤ) (N W M : ℕ) (table : List ℤ) : Type 0 wh
   pub table-room : M * W ≤ length table
   pub zeros : (j : ℕ) → at table j ≡ pos 0
 
--- the rows of M phases, and 0 behind them
-pub record PhasesOf (b : List ℤ) (N W M : ℕ) (table : List ℤ) : Type 0 where
-  pub word : (q k : ℕ) → q < M → k < W → at table (q * W + k) ≡ narrowWord b N q k
+-- M rows of N words, and 0 behind them
+pub record PhasesOf (source : ℕ → ℤ) (N W M : ℕ) (table : List ℤ) : Type 0 where
+  pub word : (q k : ℕ) → q < M → k < W → at table (q * W + k) ≡ sourceWord source N q k
   pub rest : (j : ℕ) → M * W ≤ j → at table j ≡ pos 0
 
 -- of W coefficients from place r on one is positive: then a sum of products with samples does not reach 2^31

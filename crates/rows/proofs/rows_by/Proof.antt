@@ -5,19 +5,19 @@ use Prim.Native.Nat.{ℕ, _+_, _-_, _*_, _≤_}
 use native.Mathlib.Nat.{mul-le-mul-right}
 use native.Mathlib.Omega.{arith}
 use lib.ListN.{length}
-use Rattle.rows.specs.Rows.{PhasesOf}
-use Rattle.rows.proofs.ImpulseRows.{phases-none, phases-more}
+use Rattle.rows.specs.Rows.{narrowed, PhasesOf}
+use Rattle.rows.proofs.ImpulseRows.{narrowed-row, phases-none, phases-more}
 use Rattle.rows.proofs.rows_by.Statement.{statement}
 use Rattle.rows.proofs.rows_by.Tie as tie
 
 abbrev Inv-loop : tie.InvT-loop
-Inv-loop table₀ book phases taps width q₀ table q = (q ≤ phases) × (length table ≡ length table₀) × PhasesOf book taps width q table
+Inv-loop table₀ book phases taps width q₀ table q = (q ≤ phases) × (length table ≡ length table₀) × PhasesOf (narrowed book) taps width q table
 
 abbrev μ-loop : tie.MeasureT-loop
 μ-loop table₀ book phases taps width q₀ table q = phases - q
 
 loop-holds : tie.Need-loop-holds Inv-loop μ-loop
-loop-holds c = let a = c .args in (omega arith, refl, phases-none (a .book .now) (a .taps) (a .width) (a .table .now) (c .pre .zeros))
+loop-holds c = let a = c .args in (omega arith, refl, phases-none (narrowed (a .book .now)) (a .taps) (a .width) (a .table .now) (c .pre .zeros))
 
 -- a phase lies in the book, and its row in the table
 module _ (c : tie.In-loop Inv-loop μ-loop) where
@@ -58,7 +58,11 @@ loop-again : tie.Need-loop-again Inv-loop μ-loop
 loop-again c =
     let t = c .before .before .before .before .before in
     let inv = t .loop .inv in
-    (omega arith, omega arith, phases-more (inv .2) (t .before .pre .wide) (c .before .before .before .row-of .ensures) (c .before .put-row .ensures))
+    let a = t .before .args in (
+      omega arith,
+      omega arith,
+      phases-more (inv .2) (t .before .pre .wide) (λ k h. narrowed-row (a .book .now) (t .loop .q * a .taps) k (c .before .before .before .row-of .ensures k h)) (c .before .put-row .ensures),
+    )
 
 same-length : tie.Need-same-length Inv-loop μ-loop
 same-length c = c .before .loop .inv .1
@@ -67,7 +71,7 @@ returns : tie.Need-returns Inv-loop μ-loop
 returns c =
     let a = c .before .before .args in
     let all : c .before .loop .q ≡ a .phases = omega arith in
-    subst (λ q. PhasesOf (a .book .now) (a .taps) (a .width) q (c .before .loop .table)) all (c .before .loop .inv .2)
+    subst (λ q. PhasesOf (narrowed (a .book .now)) (a .taps) (a .width) q (c .before .loop .table)) all (c .before .loop .inv .2)
 
 pub rows-by-spec : {M : Type 1} → statement M
 rows-by-spec =

@@ -11,7 +11,7 @@ use Rattle.arith.specs.Lists.{at}
 use Rattle.book.specs.Book.{sizesOf}
 use Rattle.book.proofs.Accepted.{Accepted, accepted, sizes-bounded, sizes-room}
 use Rattle.book.proofs.Bounds.{array-low}
-use Rattle.rows.specs.Rows.{rowWidth, Positive, PutAt, PhasesOf, RowsOf}
+use Rattle.rows.specs.Rows.{rowWidth, narrowed, Positive, PutAt, PhasesOf, RowsOf}
 use Rattle.rows.proofs.ImpulseRows.{rowWidth-between, taps-fit, Whole, rows-whole, rows-marked, rows-unmarked}
 use Rattle.rows.proofs.stage_rows.Statement.{statement}
 use Rattle.rows.proofs.stage_rows.Tie as tie
@@ -61,6 +61,7 @@ phase-rows-requires c κs =
       t .2,
       c .before .row-width .ensures,
       record { few = t .1; wide = wide (c .before); book-room = book-room s; table-room = omega (arith, table-room (c .before)); zeros = s .pre .4 },
+      phases-few s,
     )
 
 sub-row-of : tie.Need-sub-row-of
@@ -82,7 +83,7 @@ put-row-requires c κs =
 
 -- sizes that are the book's
 module _ (b : List ℤ) (a : Accepted b) {phases taps width : ℕ} (e : phases ≡ sizesOf b .phases) (f : taps ≡ sizesOf b .taps) (g : width ≡ rowWidth taps) where
-  staged-whole : {row table table₁ : List ℤ} → PhasesOf b taps width phases table → ((k : ℕ) → k < taps - 1 → at row k ≡ limit (negsuc 32767) (pos 32767) (at b (6 + k)))
+  staged-whole : {row table table₁ : List ℤ} → PhasesOf (narrowed b) taps width phases table → ((k : ℕ) → k < taps - 1 → at row k ≡ limit (negsuc 32767) (pos 32767) (at b (6 + k)))
       → PutAt row (phases * width) (taps - 1) table table₁ → phases * width + width < length table₁ → Whole b a table₁
   staged-whole p words put room = rows-whole b a (rw (g, f, e) at p) (rw f at words) (rw (g, f, e) at put) (rw (← e, ← f, ← g) (omega (arith, room)))
 
