@@ -2,8 +2,8 @@
 
 ghost use mathlib.Core.Path.{_≡_};
 ghost use Prim.Native.Nat.{ℕ, _+_, _*_, _^_, _≤_, _<_, min};
-ghost use lib.IntN.{natAbs};
-ghost use lib.ListN.{length, drop};
+ghost use lib.IntN.{pos, natAbs};
+ghost use lib.ListN.{length, drop, replicate};
 ghost use Rattle.arith.specs.Lists.{at, part, overwrite};
 ghost use Rattle.refusals.specs.Refusals.{playNumber, pointBound};
 ghost use Rattle.player.specs.Calls.{played, playAnswer};
@@ -20,17 +20,16 @@ use rows::stage_rows;
 use values::layout::Layout;
 use values::layout::layout_of;
 
-// The line before a run: a history, widened to 64 bits, from place 128 on.
-fn line_of(history: [i32; 81]) -> [i64; 209]
-    ensures { λ r. ⌜ (r ≡ lineOf history) × (drop 128 r ≡ history) ⌝ }
+// Makes a line of zeros the line before a run: a history, widened to 64 bits, from place 128 on.
+fn begin_line(line: &mut [i64], history: [i32; 81])
+    requires { ⌜ now line ≡ replicate 209 (pos 0) ⌝ }
+    ensures { λ _. ⌜ (now (line .exit) ≡ lineOf history) × (drop 128 (now (line .exit)) ≡ history) ⌝ }
 {
-    let mut line = [0i64; 209];
     let mut k = 0;
     while k < 81 {
         line[128 + k] = history[k] as i64;
         k += 1;
     }
-    line
 }
 
 // The history after a run, narrowed to 32 bits again.
@@ -85,7 +84,8 @@ fn fill_by(
     let decimation = book::decimation_taps(book);
     let history = v.history;
     let mut control = v.control;
-    let mut line = line_of(history);
+    let mut line = [0i64; 209];
+    begin_line(&mut line, history);
     let mut values = 0;
     let mut i = 0;
     while i < out.len() {

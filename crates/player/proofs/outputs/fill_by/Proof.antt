@@ -68,16 +68,22 @@ module _ (s : tie.Start Inv-loop μ-loop) where
 decimation-taps-requires : tie.Need-decimation-taps-requires Inv-loop μ-loop
 decimation-taps-requires c κs = fine c .book-accepted
 
-line-of-requires : tie.Need-line-of-requires Inv-loop μ-loop
-line-of-requires c κs = search needs
+slice-aggregate-begin-line : tie.Need-slice-aggregate-begin-line Inv-loop μ-loop
+slice-aggregate-begin-line c = search needs
+
+begin-line-requires : tie.Need-begin-line-requires Inv-loop μ-loop
+begin-line-requires c κs = refl
 
 -- the line that the loop begins with
-module _ (c : tie.After-line-of Inv-loop μ-loop) where
+module _ (c : tie.After-line2 Inv-loop μ-loop) where
+  abbrev taps : tie.After-decimation-taps Inv-loop μ-loop
+  taps = c .before .before .before .before .before
+
   abbrev start : tie.Start Inv-loop μ-loop
-  start = c .before .before .before .before
+  start = taps .before
 
   abbrev line₀ : List ℤ
-  line₀ = c .line-of .result
+  line₀ = c .before .begin-line .last .0
 
   abbrev voice₀ : Voice
   voice₀ = voiceWith (v start .control) line₀
@@ -86,13 +92,13 @@ module _ (c : tie.After-line-of Inv-loop μ-loop) where
   history = v start .history
 
   line-is : line₀ ≡ lineOf history
-  line-is = c .line-of .ensures .0
+  line-is = c .before .begin-line .ensures .0
 
   history-is : drop 128 line₀ ≡ history
-  history-is = c .line-of .ensures .1
+  history-is = c .before .begin-line .ensures .1
 
   length-history : length (drop 128 line₀) ≡ 81
-  length-history = simp length-drop (omega (arith, c .line-of .ok))
+  length-history = simp length-drop (omega arith)
 
   history-length : length history ≡ 81
   history-length = sym (ap length history-is) ∙ length-history
@@ -208,7 +214,7 @@ write-outputs-requires c κs =
     let n = c .before .before .before in
     let a = turn n in
     let u = s a in (
-      (fine u .book-accepted, c .before .before .before .before .before .before .before .before .before .before .before .decimation-taps .ensures, few n, omega (arith, room n, out-length a)),
+      (fine u .book-accepted, taps (a .before) .decimation-taps .ensures, few n, omega (arith, room n, out-length a)),
       points-small n,
     )
 
@@ -293,11 +299,8 @@ module _ (c : tie.After-history-of Inv-loop μ-loop) where
   values-after : end .loop .values ≡ runValues (sizesOf (b u) .fade) (v u .control) n
   values-after = values-are end ∙ ap (runValues (sizesOf (b u) .fade) (v u .control)) all-made
 
-  abbrev taps : tie.After-decimation-taps Inv-loop μ-loop
-  taps = end .before .before .before .before
-
-  taps-length : length (taps .decimation-taps .result .now) ≡ sizesOf (b u) .decimation + 1
-  taps-length = ap length (taps .decimation-taps .ensures) ∙ decimationTaps-length (b u) (book u)
+  taps-length : length (taps (end .before) .decimation-taps .result .now) ≡ sizesOf (b u) .decimation + 1
+  taps-length = ap length (taps (end .before) .decimation-taps .ensures) ∙ decimationTaps-length (b u) (book u)
 
 sub-block-multiplies : tie.Need-sub-block-multiplies Inv-loop μ-loop
 sub-block-multiplies c = omega (arith, taps-length c)
@@ -320,7 +323,7 @@ unfolding playAnswer
 returns c =
     let h = c .before in
     let sizes = sizesOf (b (u h)) in
-    let decimation : length (taps h .decimation-taps .result .now) - 1 ≡ sizes .decimation = omega (arith, taps-length h) in
+    let decimation : length (taps (end h .before) .decimation-taps .result .now) - 1 ≡ sizes .decimation = omega (arith, taps-length h) in
     let counted = c .block-multiplies .ensures ∙ block-is sizes (v (u h) .control) (n h) (values-after h) (layout-is (end h) .sizes .taps) (out-length (end h)) decimation in
     simp (u h .pre .1 .1) (ap₂ (λ x m. played 0 x m (end h .loop .out)) (voice-after h) counted ∙ ap (played 0 _ _) (words-after h))
 
@@ -331,7 +334,8 @@ fill-by-spec =
     Inv-loop
     μ-loop
     decimation-taps-requires
-    line-of-requires
+    slice-aggregate-begin-line
+    begin-line-requires
     loop-holds
     sub-run-length
     run-length-requires
