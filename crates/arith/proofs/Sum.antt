@@ -69,10 +69,6 @@ unfolding total
 total-same zero c = omega arith
 total-same (suc n) c = omega (arith, total-same n c)
 
--- |Σ f k| ≤ n · c where |f k| ≤ c
-pub sum-abs-same : (n : ℕ) (f : ℕ → ℤ) {c : ℕ} → ((k : ℕ) → k < n → natAbs (f k) ≤ c) → natAbs (sum n f) ≤ n * c
-sum-abs-same n f {c} h = rw (← total-same n c) (sum-abs n f h)
-
 -- |Σ a k · x k| ≤ (Σ |a k|) · c where |x k| ≤ c
 pub sum-abs-* : (n : ℕ) (a x : ℕ → ℤ) (c : ℕ) → ((k : ℕ) → k < n → natAbs (x k) ≤ c) → natAbs (sum n (λ k. a k *ℤ x k)) ≤ total n (λ k. natAbs (a k)) * c
 sum-abs-* n a x c h = rw (← total-* n (λ k. natAbs (a k)) c) (sum-abs n (λ k. a k *ℤ x k) (λ k l. abs-*-≤ (a k) (x k) (le-refl (natAbs (a k))) (h k l)))
