@@ -12,15 +12,10 @@ use Rattle.arith.specs.Sum.{sum, total}
 use Rattle.arith.proofs.Integers.{abs-≤, ≤-abs, abs-*-≤, *ℤ-≤ℤ}
 use Rattle.arith.proofs.Linear.{linear}
 use Rattle.arith.proofs.Ring.{products, terms}
-use Rattle.arith.proofs.Sum.{sum-ext, sum-more, sum-+, sum-*, sum-zero, sum-split, sum-abs-*, total-more, total-mono}
+use Rattle.arith.proofs.Sum.{sum-ext, sum-+, sum-*, sum-zero, sum-split, sum-abs-*, total-more, total-mono}
 use Rattle.windows.specs.Parts.{Small, Samples}
 use Rattle.rows.specs.Rows.{Positive}
-use Rattle.windows.specs.Sums.{dotSum, Fits32}
-
--- and one product more
-pub dotSum-more : (words : List ℤ) (a : ℕ) (table : List ℤ) (r n : ℕ) → dotSum words a table r (n + 1) ≡ dotSum words a table r n +ℤ at words (a + n) *ℤ at table (r + n)
-unfolding dotSum
-dotSum-more words a table r n = sum-more n (λ k. at words (a + k) *ℤ at table (r + k))
+use Rattle.sums.specs.Sums.{dotSum, Fits32}
 
 -- the sizes of the coefficients times the largest word
 pub dotSum-bound : (words : List ℤ) (a : ℕ) (table : List ℤ) (r n c : ℕ) → ((k : ℕ) → k < n → natAbs (at words (a + k)) ≤ c)

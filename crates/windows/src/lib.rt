@@ -1,6 +1,5 @@
 mod parts; // words in 16-bit parts
 mod staging; // the words that a run reads
 mod places; // where each value's coefficients and words begin
-mod sums; // sums of products, and the values that they make
 mod runs; // the values of a run, from the words of its window
 pub mod window; // values along a run of positions

@@ -8,10 +8,10 @@ ghost use Rattle.arith.specs.Lists.{tabulate, overwrite};
 ghost use Rattle.windows.specs.Runs.{RunOf, runValue};
 use crate::parts::samples_of;
 use crate::parts::split;
-use crate::sums::first_sums;
-use crate::sums::part_values;
-use crate::sums::sample_values;
 use rows::row_width;
+use sums::first_sums;
+use sums::part_values;
+use sums::sample_values;
 
 // From words in two parts.
 pub(crate) fn part_run(

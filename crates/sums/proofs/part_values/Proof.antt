@@ -1,9 +1,9 @@
--- `windows::sums::part_values` meets its contract: in each case the constant is the width. Assumes nothing.
+-- `sums::part_values` meets its contract: in each case the constant is the width. Assumes nothing.
 use mathlib.Core.Path.{_≡_}
 use native.Mathlib.Omega.{arith}
 use borrow.Author.Needs.{needs}
-use Rattle.windows.proofs.sums.part_values.Statement.{statement}
-use Rattle.windows.proofs.sums.part_values.Tie as tie
+use Rattle.sums.proofs.part_values.Statement.{statement}
+use Rattle.sums.proofs.part_values.Tie as tie
 
 part-values-by-requires : tie.Need-part-values-by-requires
 part-values-by-requires c κs =

@@ -6,7 +6,7 @@ ghost use Prim.Native.Nat.{ℕ, suc, _-_, _%_, _^_, _≤_, _<_};
 ghost use lib.IntN.{pos, _*ℤ_};
 ghost use lib.ListN.{length, getD};
 ghost use Rattle.arith.specs.Lists.{at, tabulate, overwrite};
-ghost use Rattle.windows.specs.Sums.{dotSum, Summable, Readable, sumHere, sumNext, mixedValue, PartSums, partsValue};
+ghost use Rattle.sums.specs.Sums.{dotSum, Summable, Readable, sumHere, sumNext, mixedValue, PartSums, partsValue};
 use arith::near;
 use arith::near_parts;
 
@@ -80,7 +80,7 @@ fn first_sums_by(
 }
 
 // The same, the width being one of three constants.
-pub(crate) fn first_sums(
+pub fn first_sums(
     one: &mut [i32],
     two: &mut [i32],
     count: usize,
@@ -164,7 +164,7 @@ fn sample_values_by(
 }
 
 // The same, the width being one of three constants.
-pub(crate) fn part_values(
+pub fn part_values(
     line: &mut [i64],
     end: usize,
     count: usize,
@@ -243,7 +243,7 @@ pub(crate) fn part_values(
 }
 
 // The same, the width being one of three constants.
-pub(crate) fn sample_values(
+pub fn sample_values(
     line: &mut [i64],
     end: usize,
     count: usize,

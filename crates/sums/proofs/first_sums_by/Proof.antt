@@ -1,4 +1,4 @@
--- `windows::sums::first_sums_by` meets its contract. The loop's invariant: the sums at the places passed are written. Assumes nothing.
+-- `sums::first_sums_by` meets its contract. The loop's invariant: the sums at the places passed are written. Assumes nothing.
 use mathlib.Core.Path.{_≡_, refl}
 use Prim.Native.Nat.{ℕ, _-_, _≤_, _<_}
 use native.Mathlib.Omega.{arith}
@@ -9,9 +9,9 @@ use mir.Val.{SFits}
 use Rattle.arith.specs.Lists.{at}
 use Rattle.arith.proofs.Bits.{reads}
 use Rattle.arith.proofs.Lists.{filled-more}
-use Rattle.windows.specs.Sums.{sumHere, sumNext}
-use Rattle.windows.proofs.sums.first_sums_by.Statement.{statement}
-use Rattle.windows.proofs.sums.first_sums_by.Tie as tie
+use Rattle.sums.specs.Sums.{sumHere, sumNext}
+use Rattle.sums.proofs.first_sums_by.Statement.{statement}
+use Rattle.sums.proofs.first_sums_by.Tie as tie
 
 abbrev Inv-loop : tie.InvT-loop
 Inv-loop one₀ two₀ count x y table rows firsts width k₀ one two k =

@@ -1,9 +1,9 @@
--- `windows::sums::sample_values` meets its contract: in each case the constant is the width. Assumes nothing.
+-- `sums::sample_values` meets its contract: in each case the constant is the width. Assumes nothing.
 use mathlib.Core.Path.{_≡_}
 use native.Mathlib.Omega.{arith}
 use borrow.Author.Needs.{needs}
-use Rattle.windows.proofs.sums.sample_values.Statement.{statement}
-use Rattle.windows.proofs.sums.sample_values.Tie as tie
+use Rattle.sums.proofs.sample_values.Statement.{statement}
+use Rattle.sums.proofs.sample_values.Tie as tie
 
 sample-values-by-requires : tie.Need-sample-values-by-requires
 sample-values-by-requires c κs =

@@ -1,9 +1,9 @@
--- `windows::sums::first_sums` meets its contract: in each case the constant is the width. Assumes nothing.
+-- `sums::first_sums` meets its contract: in each case the constant is the width. Assumes nothing.
 use mathlib.Core.Path.{_≡_}
 use native.Mathlib.Omega.{arith}
 use borrow.Author.Needs.{needs}
-use Rattle.windows.proofs.sums.first_sums.Statement.{statement}
-use Rattle.windows.proofs.sums.first_sums.Tie as tie
+use Rattle.sums.proofs.first_sums.Statement.{statement}
+use Rattle.sums.proofs.first_sums.Tie as tie
 
 first-sums-by-requires : tie.Need-first-sums-by-requires
 first-sums-by-requires c κs =
