@@ -15,7 +15,7 @@ use Rattle.arith.proofs.Ring.{products, terms}
 use Rattle.arith.proofs.Sum.{sum-ext, sum-+, sum-*, sum-zero, sum-split, sum-abs-*, total-more, total-mono}
 use Rattle.windows.specs.Parts.{Small, Samples}
 use Rattle.rows.specs.Rows.{Positive}
-use Rattle.sums.specs.Sums.{dotSum, Fits32}
+use Rattle.dot_products.specs.Sums.{dotSum, Fits32}
 
 -- the sizes of the coefficients times the largest word
 pub dotSum-bound : (words : List ℤ) (a : ℕ) (table : List ℤ) (r n c : ℕ) → ((k : ℕ) → k < n → natAbs (at words (a + k)) ≤ c)

@@ -18,7 +18,7 @@ use Rattle.values.proofs.Values.{unit-pos, phase-below}
 use Rattle.values.proofs.Phases.{word-units, levelValue-phases}
 use Rattle.rows.specs.Rows.{rowWidth, RowsOf}
 use Rattle.windows.specs.Places.{PlacesOf}
-use Rattle.sums.specs.Sums.{dotSum, mixedValue}
+use Rattle.dot_products.specs.Sums.{dotSum, mixedValue}
 use Rattle.windows.specs.Runs.{RowFits, RunOf, runValue}
 use Rattle.rows.proofs.ImpulseRows.{row-tap, row-rest, row-total}
 use Rattle.windows.proofs.Staged.{staged-small}

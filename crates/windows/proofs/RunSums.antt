@@ -9,7 +9,7 @@ use lib.ListN.{length, getD}
 use Rattle.arith.specs.Lists.{at}
 use Rattle.rows.specs.Rows.{rowWidth, Marked}
 use Rattle.windows.specs.Parts.{Within, Small, Samples, PartsOf, SamplesOf}
-use Rattle.sums.specs.Sums.{dotSum, Fits32, Summable, Readable, sumHere, sumNext, mixedValue, PartSums, partsValue}
+use Rattle.dot_products.specs.Sums.{dotSum, Fits32, Summable, Readable, sumHere, sumNext, mixedValue, PartSums, partsValue}
 use Rattle.windows.specs.Runs.{RowFits, RunOf, runValue}
 use Rattle.windows.proofs.Dots.{dotSum-bound, small-fits, samples-fit, dotSum-rest, dotSum-scaled, dotSum-parts}
 use Rattle.rows.proofs.ImpulseRows.{rowWidth-between, taps-fit}

@@ -7,7 +7,7 @@ use lib.ListN.{length, getD}
 use Rattle.arith.specs.Lists.{at}
 use Rattle.arith.specs.Sum.{total}
 use Rattle.rows.specs.Rows.{rowWidth, Positive, Marked}
-use Rattle.sums.specs.Sums.{dotSum, mixedValue}
+use Rattle.dot_products.specs.Sums.{dotSum, mixedValue}
 
 -- a row of W coefficients from place r on, of which N count
 pub record RowFits (table : List ℤ) (r N W : ℕ) : Type 0 where

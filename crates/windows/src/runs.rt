@@ -8,10 +8,10 @@ ghost use Rattle.arith.specs.Lists.{tabulate, overwrite};
 ghost use Rattle.windows.specs.Runs.{RunOf, runValue};
 use crate::parts::samples_of;
 use crate::parts::split;
+use dot_products::first_sums;
+use dot_products::part_values;
+use dot_products::sample_values;
 use rows::row_width;
-use sums::first_sums;
-use sums::part_values;
-use sums::sample_values;
 
 // From words in two parts.
 pub(crate) fn part_run(

@@ -10,7 +10,7 @@ use Rattle.arith.proofs.Lists.{tabulate-ext}
 use Rattle.arith.proofs.Parts.{zeros-every}
 use Rattle.rows.specs.Rows.{rowWidth}
 use Rattle.windows.specs.Parts.{Small, PartsOf}
-use Rattle.sums.specs.Sums.{Readable}
+use Rattle.dot_products.specs.Sums.{Readable}
 use Rattle.windows.specs.Runs.{RunOf}
 use Rattle.windows.proofs.RunSums.{small-summed, readable, parts-sums, parts-value}
 use borrow.Author.Needs.{needs}

@@ -13,7 +13,7 @@ use Rattle.arith.proofs.Linear.{linear}
 use Rattle.arith.proofs.Parts.{zeros-every}
 use Rattle.rows.specs.Rows.{rowWidth, Marked}
 use Rattle.windows.specs.Parts.{Sample, SamplesOf}
-use Rattle.sums.specs.Sums.{Readable}
+use Rattle.dot_products.specs.Sums.{Readable}
 use Rattle.windows.specs.Runs.{RunOf}
 use Rattle.windows.proofs.RunSums.{samples-summed, readable, samples-value}
 use borrow.Author.Needs.{needs}

@@ -1,4 +1,4 @@
--- `sums::sample_value` meets its contract: every number on the way fits 64 bits, and what is rounded is the words' over 2^12. Assumes nothing.
+-- `dot_products::sample_value` meets its contract: every number on the way fits 64 bits, and what is rounded is the words' over 2^12. Assumes nothing.
 use mathlib.Core.Path.{_≡_, sym, ap, _∙_}
 use Prim.Native.Nat.{ℕ, _+_, _*_, _/_, _^_, _≤_, _<_}
 use native.Mathlib.Nat.{div-add-mod}
@@ -14,9 +14,9 @@ use Rattle.arith.proofs.Floor.{near-scale}
 use Rattle.arith.proofs.Linear.{linear}
 use Rattle.arith.proofs.Ring.{products, terms}
 use Rattle.arith.proofs.Integers.{abs-fits, abs-triangle, abs-*-≤}
-use Rattle.sums.specs.Sums.{mixedValue}
-use Rattle.sums.proofs.sample_value.Statement.{statement}
-use Rattle.sums.proofs.sample_value.Tie as tie
+use Rattle.dot_products.specs.Sums.{mixedValue}
+use Rattle.dot_products.proofs.sample_value.Statement.{statement}
+use Rattle.dot_products.proofs.sample_value.Tie as tie
 
 module _ (c : tie.Start) where
   abbrev b : ℤ

@@ -1,9 +1,9 @@
--- `sums::first_sums` meets its contract: in each case the constant is the width. Assumes nothing.
+-- `dot_products::first_sums` meets its contract: in each case the constant is the width. Assumes nothing.
 use mathlib.Core.Path.{_≡_}
 use native.Mathlib.Omega.{arith}
 use borrow.Author.Needs.{needs}
-use Rattle.sums.proofs.first_sums.Statement.{statement}
-use Rattle.sums.proofs.first_sums.Tie as tie
+use Rattle.dot_products.proofs.first_sums.Statement.{statement}
+use Rattle.dot_products.proofs.first_sums.Tie as tie
 
 first-sums-by-requires : tie.Need-first-sums-by-requires
 first-sums-by-requires c κs =

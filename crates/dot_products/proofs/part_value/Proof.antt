@@ -1,4 +1,4 @@
--- `sums::part_value` meets its contract: every number on the way fits 64 bits, and both parts of the sum make it. Assumes nothing.
+-- `dot_products::part_value` meets its contract: every number on the way fits 64 bits, and both parts of the sum make it. Assumes nothing.
 use mathlib.Core.Path.{_≡_, ap, _∙_}
 use Prim.Native.Nat.{ℕ, _+_, _*_, _^_, _≤_, _<_}
 use native.Mathlib.Nat.{div-add-mod}
@@ -13,9 +13,9 @@ use Rattle.arith.proofs.Bits.{reads}
 use Rattle.arith.proofs.Linear.{linear, abs-neg}
 use Rattle.arith.proofs.Ring.{products, terms}
 use Rattle.arith.proofs.Integers.{abs-fits, abs-triangle, abs-*-≤}
-use Rattle.sums.specs.Sums.{mixedValue, partsValue}
-use Rattle.sums.proofs.part_value.Statement.{statement}
-use Rattle.sums.proofs.part_value.Tie as tie
+use Rattle.dot_products.specs.Sums.{mixedValue, partsValue}
+use Rattle.dot_products.proofs.part_value.Statement.{statement}
+use Rattle.dot_products.proofs.part_value.Tie as tie
 
 module _ (c : tie.Start) where
   abbrev h : ℤ

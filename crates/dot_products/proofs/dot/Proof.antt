@@ -1,4 +1,4 @@
--- `sums::dot` meets its contract. The loop's invariant: the sum's bits are those of the sum over the words below k. Assumes nothing.
+-- `dot_products::dot` meets its contract. The loop's invariant: the sum's bits are those of the sum over the words below k. Assumes nothing.
 use mathlib.Core.Path.{_≡_, refl, sym, ap}
 use Prim.Native.Nat.{ℕ, _+_, _-_, _≤_}
 use native.Mathlib.Omega.{arith}
@@ -12,10 +12,10 @@ use Rattle.arith.specs.Sum.{sum}
 use Rattle.arith.proofs.Bits.{reads, toZ-ofZ-from}
 use Rattle.arith.proofs.Integers.{abs-*-≤, abs-fits}
 use Rattle.arith.proofs.Linear.{linear}
-use Rattle.sums.specs.Sums.{dotSum, Fits32}
-use Rattle.sums.proofs.DotSums.{dotSum-more}
-use Rattle.sums.proofs.dot.Statement.{statement}
-use Rattle.sums.proofs.dot.Tie as tie
+use Rattle.dot_products.specs.Sums.{dotSum, Fits32}
+use Rattle.dot_products.proofs.DotSums.{dotSum-more}
+use Rattle.dot_products.proofs.dot.Statement.{statement}
+use Rattle.dot_products.proofs.dot.Tie as tie
 
 abbrev Inv-loop : tie.InvT-loop
 Inv-loop words first table row width sum₀ k₀ sum k = (k ≤ width) × (sum ≡ ofZ w32 (dotSum words first table row k))

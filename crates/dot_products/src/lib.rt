@@ -6,7 +6,7 @@ ghost use Prim.Native.Nat.{ℕ, suc, _-_, _%_, _^_, _≤_, _<_};
 ghost use lib.IntN.{pos, _*ℤ_};
 ghost use lib.ListN.{length, getD};
 ghost use Rattle.arith.specs.Lists.{at, tabulate, overwrite};
-ghost use Rattle.sums.specs.Sums.{dotSum, Summable, Readable, sumHere, sumNext, mixedValue, PartSums, partsValue};
+ghost use Rattle.dot_products.specs.Sums.{dotSum, Summable, Readable, sumHere, sumNext, mixedValue, PartSums, partsValue};
 use arith::near;
 use arith::near_parts;
 

@@ -1,4 +1,4 @@
--- `sums::part_values_by` meets its contract. The loop's invariant: the values of the places passed are written, the newest in front. Assumes nothing.
+-- `dot_products::part_values_by` meets its contract. The loop's invariant: the values of the places passed are written, the newest in front. Assumes nothing.
 use mathlib.Core.Path.{_≡_, refl, sym, ap, ap₂, subst, _∙_}
 use mathlib.Core.List.{List}
 use Prim.Native.Nat.{ℕ, _-_, _≤_, _<_}
@@ -10,9 +10,9 @@ use mir.Val.{SFits}
 use Rattle.arith.specs.Lists.{at}
 use Rattle.arith.proofs.Bits.{reads}
 use Rattle.arith.proofs.Written.{newest, newest-none, newest-next}
-use Rattle.sums.specs.Sums.{sumHere, sumNext, PartSums, partsValue}
-use Rattle.sums.proofs.part_values_by.Statement.{statement}
-use Rattle.sums.proofs.part_values_by.Tie as tie
+use Rattle.dot_products.specs.Sums.{sumHere, sumNext, PartSums, partsValue}
+use Rattle.dot_products.proofs.part_values_by.Statement.{statement}
+use Rattle.dot_products.proofs.part_values_by.Tie as tie
 
 -- the value at place k
 abbrev valueAt : List ℤ → List ℤ → List ℤ → List ℤ → List ℤ → ℕ → List ℕ → List ℕ → List ℕ → ℕ → ℤ

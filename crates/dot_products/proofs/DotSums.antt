@@ -5,7 +5,7 @@ use Prim.Native.Nat.{ℕ, _+_}
 use lib.IntN.{ℤ, _+ℤ_, _*ℤ_}
 use Rattle.arith.specs.Lists.{at}
 use Rattle.arith.proofs.Sum.{sum-more}
-use Rattle.sums.specs.Sums.{dotSum}
+use Rattle.dot_products.specs.Sums.{dotSum}
 
 -- and one product more
 pub dotSum-more : (words : List ℤ) (a : ℕ) (table : List ℤ) (r n : ℕ) → dotSum words a table r (n + 1) ≡ dotSum words a table r n +ℤ at words (a + n) *ℤ at table (r + n)
