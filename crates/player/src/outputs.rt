@@ -12,6 +12,7 @@ ghost use Rattle.rows.specs.Rows.{RowsOf};
 ghost use Rattle.player.specs.Inner.{lineOf};
 use crate::PlayAnswer;
 use crate::Voice;
+use control::Control;
 use decimation::write_outputs;
 use multiplies::block_multiplies;
 use points::next_points;
@@ -106,6 +107,11 @@ fn fill_by(
     }
 }
 
+// Whether a block may read level 0, as far as its voice tells: without it the rows' mark is not looked for.
+fn may_read_samples(c: Control) -> bool {
+    c.fade.from == 0 || c.fade.to == 0 || c.rate < 268435456 || 0 < c.glide.count
+}
+
 // Fills the output slice. Most books' rows have room in the smaller table, which takes less time to clear.
 pub(crate) fn fill(v: Voice, book: &[i32], store: &[i32], out: &mut [i16]) -> PlayAnswer
     requires { ⌜ playNumber (now book) (now store) (v .control) pointBound (v .history) (length (now out)) ≡ 0 ⌝ }
@@ -114,12 +120,13 @@ pub(crate) fn fill(v: Voice, book: &[i32], store: &[i32], out: &mut [i16]) -> Pl
     let layout = layout_of(book, store);
     let phases = layout.phases;
     let taps = layout.taps;
+    let mark = may_read_samples(v.control);
     if (phases + 1) * row_width(taps) < 1048 {
         let mut table = [0i16; 1048];
-        stage_rows(&mut table, book, phases, taps);
+        stage_rows(&mut table, book, phases, taps, mark);
         return fill_by(&table, v, book, store, layout, out);
     }
     let mut table = [0i16; 4136];
-    stage_rows(&mut table, book, phases, taps);
+    stage_rows(&mut table, book, phases, taps, mark);
     fill_by(&table, v, book, store, layout, out)
 }

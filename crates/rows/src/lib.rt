@@ -155,8 +155,8 @@ fn lobes(table: &[i16], count: usize, taps: usize, width: usize) -> bool
 }
 
 // The rows of a book, in a table of zeros that has room for them and a word more. Behind the last phase comes the first one, from its second impulse on. The
-// table's last word is 1 if each row has a positive coefficient: then a sum of any samples fits 32 bits.
-pub fn stage_rows(table: &mut [i16], book: &[i32], phases: usize, taps: usize)
+// table's last word is 1 if a mark is asked for and each row has a positive coefficient: then a sum of any samples fits 32 bits.
+pub fn stage_rows(table: &mut [i16], book: &[i32], phases: usize, taps: usize, mark: bool)
     requires { ⌜ (bookNumber (now book) ≡ 0) × (phases ≡ sizesOf (now book) .phases) × (taps ≡ sizesOf (now book) .taps) × ((phases + 1) * rowWidth taps < length (now table)) × ((j : ℕ) → at (now table) j ≡ pos 0) ⌝ }
     ensures { λ _. ⌜ RowsOf (now (book .entry)) (now (table .exit)) ⌝ }
 {
@@ -164,8 +164,10 @@ pub fn stage_rows(table: &mut [i16], book: &[i32], phases: usize, taps: usize)
     phase_rows(table, book, phases, taps, width);
     let row = row_of(book, 6, taps - 1);
     put_row(table, phases * width, row, taps - 1);
-    if lobes(table, phases + 1, taps, width) {
-        let last = table.len() - 1;
-        table[last] = 1;
+    if mark {
+        if lobes(table, phases + 1, taps, width) {
+            let last = table.len() - 1;
+            table[last] = 1;
+        }
     }
 }

@@ -110,37 +110,45 @@ module _ (c : tie.After-put-row) where
       (omega (arith, table-room w))
 
 add-lobes : tie.Need-add-lobes
-add-lobes c = omega (arith, phases-few (start (c .before .before)))
+add-lobes c = omega (arith, phases-few (start (c .before .before .before)))
 
 lobes-requires : tie.Need-lobes-requires
 lobes-requires c κs =
-    let p = c .before .before in
+    let p = c .before .before .before in
     omega (arith, taps-bounds (start p), wide (w p), table-room (w p), rowWidth-between (start p .args .taps), w p .row-width .ensures)
 
 sub-last : tie.Need-sub-last
-sub-last c = omega (arith, table-room (w (c .before .before .before .before)))
+sub-last c = omega (arith, table-room (w (c .before .before .before .before .before)))
 
 mul-table : tie.Need-mul-table
 mul-table c = omega arith
 
 slice-set-of-table : tie.Need-slice-set-of-table
-slice-set-of-table c = omega (arith, table-room (w (c .before .before .before .before)))
+slice-set-of-table c = omega (arith, table-room (w (c .before .before .before .before .before)))
 
 same-length : tie.Need-same-length
 same-length c = simp length-set (omega arith)
 
 returns : tie.Need-returns
 returns c =
-    let p = c .before .before .before .before in
+    let p = c .before .before .before .before .before in
     let s = start p in
-    staged-marked (s .args .book .now) (valid s) (phases-are s) (taps-are s) (w p .row-width .ensures) (table p) (whole p) (c .before .lobes .ensures (c .if1 .taken))
+    staged-marked (s .args .book .now) (valid s) (phases-are s) (taps-are s) (w p .row-width .ensures) (table p) (whole p) (c .before .lobes .ensures (c .if2 .taken))
 
 same-length-2 : tie.Need-same-length-2
 same-length-2 c = search needs
 
 returns-2 : tie.Need-returns-2
 returns-2 c =
-    let p = c .before .before .before .before in
+    let p = c .before .before .before .before .before in
+    rows-unmarked (start p .args .book .now) (valid (start p)) (whole p)
+
+same-length-3 : tie.Need-same-length-3
+same-length-3 c = search needs
+
+returns-3 : tie.Need-returns-3
+returns-3 c =
+    let p = c .before .before in
     rows-unmarked (start p .args .book .now) (valid (start p)) (whole p)
 
 pub stage-rows-spec : {M : Type 1} → statement M
@@ -162,4 +170,6 @@ stage-rows-spec =
     same-length
     returns
     same-length-2
-    returns-2)
+    returns-2
+    same-length-3
+    returns-3)

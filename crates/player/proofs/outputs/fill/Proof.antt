@@ -46,21 +46,24 @@ module _ (l : tie.After-layout-of) where
       let few : l .layout-of .result .phases + 1 ≤ 129 = omega (arith, phases-few) in
       mul-le-mul few (rowWidth-between (l .layout-of .result .taps) .1)
 
+may-read-samples-requires : tie.Need-may-read-samples-requires
+may-read-samples-requires c κs = search needs
+
 add-if1 : tie.Need-add-if1
-add-if1 c = omega (arith, phases-few c)
+add-if1 c = omega (arith, phases-few (c .before))
 
 row-width-requires : tie.Need-row-width-requires
 row-width-requires c κs = search needs
 
 mul-if1 : tie.Need-mul-if1
-mul-if1 c = rw (c .row-width .ensures) (omega (arith, rows-room (c .before)))
+mul-if1 c = rw (c .row-width .ensures) (omega (arith, rows-room (c .before .before)))
 
 slice-aggregate-stage-rows : tie.Need-slice-aggregate-stage-rows
 slice-aggregate-stage-rows c = search needs
 
 stage-rows-requires : tie.Need-stage-rows-requires
 stage-rows-requires c κs =
-    let l = c .before .before .before in
+    let l = c .before .before .before .before in
     let o = layout-is l .sizes in
     let fits = rw (c .before .before .row-width .ensures) at (c .before .if1 .taken) in
     (o .book-accepted, o .phases, o .taps, fits, zeros-every (λ x. x ≡ pos 0) refl 1048)
@@ -71,7 +74,7 @@ slice-aggregate-fill-by c = search needs
 fill-by-requires : tie.Need-fill-by-requires
 fill-by-requires c κs =
     let r = c .before .before .before in
-    let l = r .before .before .before .before in
+    let l = r .before .before .before .before .before in
     (r .stage-rows .ensures, (layout-is l, start l .pre))
 
 same-length : tie.Need-same-length
@@ -85,7 +88,7 @@ slice-aggregate-stage-rows-2 c = search needs
 
 stage-rows-requires-2 : tie.Need-stage-rows-requires-2
 stage-rows-requires-2 c κs =
-    let l = c .before .before .before in
+    let l = c .before .before .before .before in
     let o = layout-is l .sizes in
     (o .book-accepted, o .phases, o .taps, omega (arith, rows-room l), zeros-every (λ x. x ≡ pos 0) refl 4136)
 
@@ -95,7 +98,7 @@ slice-aggregate-fill-by-2 c = search needs
 fill-by-requires-2 : tie.Need-fill-by-requires-2
 fill-by-requires-2 c κs =
     let r = c .before .before .before in
-    let l = r .before .before .before .before in
+    let l = r .before .before .before .before .before in
     (r .stage-rows2 .ensures, (layout-is l, start l .pre))
 
 same-length-2 : tie.Need-same-length-2
@@ -109,6 +112,7 @@ fill-spec =
     tie.close
     (tie.spec
     layout-of-requires
+    may-read-samples-requires
     add-if1
     row-width-requires
     mul-if1
