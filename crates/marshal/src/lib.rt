@@ -43,29 +43,35 @@ fn returned(voice: &mut [i32], a: Answer) -> u32
     0
 }
 
-// Orders a jump to a rate.
-pub fn jump(voice: &mut [i32], rate: f32) -> u32
-    ensures { λ r. ⌜ crossed r (now (voice .exit)) ≡ crossing (now (voice .entry)) (λ v. orderAnswer v (Jump rate)) ⌝ }
+// Gives an order.
+fn ordered(voice: &mut [i32], order: Order) -> u32
+    ensures { λ r. ⌜ crossed r (now (voice .exit)) ≡ crossing (now (voice .entry)) (λ v. orderAnswer v order) ⌝ }
 {
     if voice.len() != 95 {
         return 28;
     }
-    let a = voice_of(voice).order(Order::Jump(rate));
+    let a = voice_of(voice).order(order);
     returned(voice, a)
+}
+
+// Orders a jump to a rate.
+pub fn jump(voice: &mut [i32], rate: f32) -> u32
+    ensures { λ r. ⌜ crossed r (now (voice .exit)) ≡ crossing (now (voice .entry)) (λ v. orderAnswer v (Jump rate)) ⌝ }
+{
+    ordered(voice, Order::Jump(rate))
 }
 
 // Orders a glide to a rate over `count` outputs.
 pub fn glide(voice: &mut [i32], rate: f32, count: u32) -> u32
     ensures { λ r. ⌜ crossed r (now (voice .exit)) ≡ crossing (now (voice .entry)) (λ v. orderAnswer v (Glide rate count)) ⌝ }
 {
-    if voice.len() != 95 {
-        return 28;
-    }
-    let a = voice_of(voice).order(Order::Glide {
-        target: rate,
-        count,
-    });
-    returned(voice, a)
+    ordered(
+        voice,
+        Order::Glide {
+            target: rate,
+            count,
+        },
+    )
 }
 
 // Sets the position.

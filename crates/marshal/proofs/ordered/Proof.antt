@@ -1,12 +1,11 @@
--- `marshal::jump` meets its contract: the answer of the voice that the words hold. Assumes nothing.
+-- `marshal::ordered` meets its contract: the answer of the voice that the words hold. Assumes nothing.
 use borrow.Author.Needs.{needs}
 use borrow.Author.Tests.{eq-eqb, ne-eqb}
 use mathlib.Core.Path.{ap, _∙_}
 use Rattle.marshal.specs.Calls.{returned, crossing}
 use Rattle.player.specs.Calls.{orderAnswer}
-use Rattle.control.specs.declared.Order.the-variants.{Jump}
-use Rattle.marshal.proofs.jump.Statement.{statement}
-use Rattle.marshal.proofs.jump.Tie as tie
+use Rattle.marshal.proofs.ordered.Statement.{statement}
+use Rattle.marshal.proofs.ordered.Tie as tie
 
 returns : tie.Need-returns
 unfolding crossing
@@ -32,9 +31,9 @@ returns-2 c =
     let v = a .before in
     let e = v .before .before in
     let s = e .before in
-    simp (eq-eqb _ _ (e .if1 .left)) (r .returned .ensures ∙ ap (returned (s .args .voice .now)) (a .order .ensures ∙ ap (λ v. orderAnswer v (Jump (s .args .rate))) (v .voice-of .ensures)))
+    simp (eq-eqb _ _ (e .if1 .left)) (r .returned .ensures ∙ ap (returned (s .args .voice .now)) (a .order .ensures ∙ ap (λ v. orderAnswer v (s .args .order)) (v .voice-of .ensures)))
 
-pub jump-spec : {M : Type 1} → statement M
-jump-spec =
+pub ordered-spec : {M : Type 1} → statement M
+ordered-spec =
     tie.close
     (tie.spec returns voice-of-requires order-requires returned-requires same-length returns-2)
