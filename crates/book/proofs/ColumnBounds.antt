@@ -2,7 +2,7 @@
 use mathlib.Core.Bool.{Bool, true, false, cond}
 use mathlib.Core.List.{List}
 use mathlib.Core.Path.{_≡_, refl, sym, ap, _∙_}
-use Prim.Native.Nat.{ℕ, zero, suc, _+_, _*_, _/_, _%_, _≤_, _<_}
+use Prim.Native.Nat.{ℕ, zero, suc, _+_, _-_, _*_, _/_, _%_, _≤_, _<_}
 use native.Mathlib.Decide.{ℕ-discrete}
 use native.Mathlib.Nat.{le-trans}
 use native.Mathlib.Omega.{arith}
@@ -12,6 +12,8 @@ use lib.IntN.{ℤ, pos, negsuc, natAbs, _+ℤ_, _-ℤ_}
 use lib.ListN.{length, set, length-set}
 use lib.Seq.{getD-set-same, getD-set-other}
 use lib.Signed.{ltZ, leZ, _<ℤ_, _≤ℤ_, ≤ℤ-refl}
+use mir.Syntax.{w16}
+use mir.Val.{SFits}
 use Rattle.arith.specs.Limit.{limit}
 use Rattle.arith.specs.Lists.{at, part}
 use Rattle.arith.specs.Sum.{total}
@@ -20,13 +22,14 @@ use Rattle.arith.proofs.Integers.{≤ℤ-trans, <ℤ-≤ℤ}
 use Rattle.arith.proofs.Linear.{linear, signed, lt-yes, lt-no}
 use Rattle.arith.proofs.Lists.{at-part, part-length}
 use Rattle.arith.proofs.Sum.{total-≤, total-mono}
-use Rattle.arith.proofs.Tests.{&&-both, every-all, every-ext, every-rows, every-split}
+use Rattle.arith.proofs.Tests.{&&-both, eqZ-yes, every-all, every-ext, every-rows, every-split}
 use Rattle.book.specs.Book.{sizesOf, levelTapsAt, decimationTapsAt, bookLength, levelTaps, decimationTaps}
 use Rattle.book.specs.Check.{wordsInRange, coefficientsInRange, phaseSum, tapSum, sumsInRange}
-use Rattle.book.specs.Columns.{larger, Bounds, Raised, tapBound}
+use Rattle.book.specs.Columns.{larger, Bounds, Tested, Passed, Raised, tapBound}
 use Rattle.book.proofs.Around.{tap-bound}
 use Rattle.book.proofs.Bounds.{row-below}
 use Rattle.book.proofs.Parts.{phaseSum-stored}
+use Rattle.book.proofs.Runs.{rightAt, same-words}
 
 -- ---- the larger of two
 
@@ -49,6 +52,17 @@ bounds-more {c} {d} {x} h b = record { size = go }
         let m : c <ℤ pos 32767 = simp linear (omega signed) in
         let s = b .size m in
         simp linear (omega (signed, simp linear at s))
+
+pub tested-more : {c d x y z : ℤ} → c ≤ℤ d → Tested c x y z → Tested d x y z
+tested-more {c} {d} h t = record { right = λ l. t .right (simp linear (omega signed)) }
+
+-- a bound that is kept where its test holds, and else the one that bounds nothing
+pub kept-tested : {c d x y z : ℤ} (t : Bool) → SFits w16 c → d ≡ cond t c (pos 32767) → (t ≡ true → natAbs y ≤ 32767 → natAbs z ≤ 32767 → x ≡ y -ℤ z) → (c ≤ℤ d) × Tested d x y z
+kept-tested {c} true f e r = (rw e (≤ℤ-refl c), record { right = λ l. r refl })
+kept-tested {c} {d} false f e r = (rw e (simp linear (omega (arith, simp linear at f))), record { right = λ l. absurd (omega (signed, simp linear at e)) })
+
+pub passed-more : {b : List ℤ} {array taps row k : ℕ} {c d : ℤ} → c ≤ℤ d → Passed b array taps row k c → Passed b array taps row k d
+passed-more h p = record { bounded = bounds-more h (p .bounded); tested = tested-more h (p .tested) }
 
 -- f is at least x and −1 − x
 fold-bounds : (x f : ℤ) → x ≤ℤ f → (negsuc 0 -ℤ x) ≤ℤ f → pos (natAbs x) ≤ℤ (f +ℤ pos 1)
@@ -81,6 +95,15 @@ raised-set xs k v h l = record { words = length-set xs k v; rise = λ j. go j (�
     go j (yes p) = rw (p, getD-set-same xs k v (pos 0) h) l
     go j (no n) = rw (getD-set-other xs k j v (pos 0) n) (≤ℤ-refl (at xs j))
 
+-- and what held of the bounds passed, and holds of this one
+pub raised-next : (P : ℕ → ℤ → Type 0) → ((j : ℕ) (c d : ℤ) → c ≤ℤ d → P j c → P j d) → (xs : List ℤ) (column k : ℕ) (v : ℤ) → k < length xs → at xs k ≤ℤ v
+    → P k v → ((j : ℕ) → column ≤ j → j < k → P j (at xs j)) → (j : ℕ) → column ≤ j → j < k + 1 → P j (at (set xs k v) j)
+raised-next P stays xs column k v h l p below j m n = go (ℕ-discrete j k)
+  where
+    go : Dec (j ≡ k) → P j (at (set xs k v) j)
+    go (yes e) = rw (e, getD-set-same xs k v (pos 0) h) p
+    go (no d) = stays j _ _ (raised-set xs k v h l .rise j) (below j m (omega arith))
+
 -- ---- what the bounds settle
 
 bound-reached : (c : ℤ) (n : ℕ) → c <ℤ pos 32767 → pos n ≤ℤ (c +ℤ pos 1) → (n ≤ natAbs c + 1) × (n ≤ 32767)
@@ -104,17 +127,21 @@ module _ (bounds : List ℤ) (taps k : ℕ) where
   four (suc (suc (suc zero))) h = ≤ℤ-trans (at-least {x = at bounds (2 * taps + k)} {y = at bounds (3 * taps + k)} refl .1) (both .1)
   four (suc (suc (suc (suc j)))) h = absurd (omega arith)
 
-  -- a word that one of them bounds
-  tap-word : tapBound bounds taps k ≤ 65536 → (j : ℕ) → j < 4 → {x : ℤ} → Bounds (at bounds (j * taps + k)) x → (natAbs x ≤ tapBound bounds taps k) × (natAbs x ≤ 32767)
+  -- where they bound the tap, each is a bound
+  bound-low : tapBound bounds taps k ≤ 65536 → (larger first second <ℤ pos 32767) × (tapBound bounds taps k ≡ natAbs (larger first second) + 1)
   unfolding tapBound
-  tap-word low j h {x} b = go (ltZ (larger first second) (pos 32767)) refl low
+  bound-low = go (ltZ (larger first second) (pos 32767)) refl
     where
       go : (t : Bool) → ltZ (larger first second) (pos 32767) ≡ t → cond t (natAbs (larger first second) + 1) 65537 ≤ 65536
-          → (natAbs x ≤ cond t (natAbs (larger first second) + 1) 65537) × (natAbs x ≤ 32767)
-      go true e l =
-          let m = lt-yes {x = larger first second} {y = pos 32767} e in
-          bound-reached (larger first second) (natAbs x) m (bounds-more (four j h) b .size m)
+          → (larger first second <ℤ pos 32767) × (cond t (natAbs (larger first second) + 1) 65537 ≡ natAbs (larger first second) + 1)
+      go true e l = (lt-yes e, refl)
       go false e l = absurd (omega arith)
+
+  -- a word that one of them bounds
+  tap-word : tapBound bounds taps k ≤ 65536 → (j : ℕ) → j < 4 → {x : ℤ} → Bounds (at bounds (j * taps + k)) x → (natAbs x ≤ tapBound bounds taps k) × (natAbs x ≤ 32767)
+  tap-word h j l {x} b =
+      let m = bound-low h in
+      rw (m .1) (bound-reached (larger first second) (natAbs x) (m .0) (bounds-more (four j l) b .size (m .0)))
 
 part-of : (n : ℕ) (f : ℕ → ℕ) (k : ℕ) → k < n → f k ≤ total n f
 unfolding total
@@ -123,28 +150,57 @@ part-of n f k h = omega (arith, total-mono (suc k) n f h)
 half : (x : ℤ) → natAbs x ≤ 32767 → within (negsuc 32767) (pos 32767) x ≡ true
 half x h = &&-both {s = leZ (negsuc 32767) x} {t = leZ x (pos 32767)} (simp linear (omega (arith, simp linear at h))) (simp linear (omega (arith, simp linear at h)))
 
-module _ (b bounds : List ℤ) (rows : ℕ) (phases-are : sizesOf b .phases ≡ rows * 4)
-    (all : (p i : ℕ) → p < rows → i < 4 * sizesOf b .taps → Bounds (at bounds i) (at b (5 + p * (4 * sizesOf b .taps) + i)))
-    (low : total (sizesOf b .taps) (tapBound bounds (sizesOf b .taps)) ≤ 65536) where
-  abbrev N : ℕ
-  N = sizesOf b .taps
+-- M phases of N words, in rows of four phases
+module _ (b bounds : List ℤ) (rows M N : ℕ) (phases-are : M ≡ sizesOf b .phases) (taps-are : N ≡ sizesOf b .taps) (whole : M ≡ rows * 4)
+    (all : (p i : ℕ) → p < rows → i < 4 * N → Bounds (at bounds i) (at b (5 + p * (4 * N) + i))) (low : total N (tapBound bounds N) ≤ 65536) where
+  tap-low : (k : ℕ) → k < N → tapBound bounds N k ≤ 65536
+  tap-low k l = omega (arith, part-of N (tapBound bounds N) k l)
 
-  impulse-bound : (q k : ℕ) → q < sizesOf b .phases → k < N → (natAbs (at b (5 + (q * N + k))) ≤ tapBound bounds N k) × (natAbs (at b (5 + (q * N + k))) ≤ 32767)
-  impulse-bound q k h l =
+  -- where tap k of phase q stands in the rows
+  place : (q k : ℕ) → 5 + q / 4 * (4 * N) + (q % 4 * N + k) ≡ 5 + (q * N + k)
+  place q k =
       let parts : q ≡ q / 4 * 4 + q % 4 = omega arith in
-      let place : 5 + q / 4 * (4 * N) + (q % 4 * N + k) ≡ 5 + (q * N + k) = omega (arith, ap (λ z. z * N) parts) in
-      rw (sym place) (tap-word bounds N k (omega (arith, part-of N (tapBound bounds N) k l)) (q % 4) (omega arith) (all (q / 4) (q % 4 * N + k) (omega arith) (row-below {q = q % 4} {m = 4} (omega arith) l)))
+      omega (arith, ap (λ z. z * N) parts)
+
+  impulse-bound : (q k : ℕ) → q < M → k < N → (natAbs (at b (5 + (q * N + k))) ≤ tapBound bounds N k) × (natAbs (at b (5 + (q * N + k))) ≤ 32767)
+  impulse-bound q k h l =
+      rw (sym (place q k)) (tap-word bounds N k (tap-low k l) (q % 4) (omega arith) (all (q / 4) (q % 4 * N + k) (omega arith) (row-below {q = q % 4} {m = 4} (omega arith) l)))
+
+  sum-is : (q : ℕ) → q < M → phaseSum b q ≡ total N (λ k. natAbs (at b (5 + (q * N + k))))
+  sum-is q h = rw taps-are (phaseSum-stored b q (omega (arith, phases-are)))
 
   abbrev inRange : ℕ → Bool
   inRange i = within (negsuc 32767) (pos 32767) (at b (5 + i))
 
-  pub impulses-settled : (wordsInRange b 5 (sizesOf b .phases * N) ≡ true) × (every (sizesOf b .phases) (λ q. leb (phaseSum b q) 65536) ≡ true)
+  pub impulses-settled : (wordsInRange b 5 (M * N) ≡ true) × (every M (λ q. leb (phaseSum b q) 65536) ≡ true)
   unfolding wordsInRange
   impulses-settled = (
-    sym (every-rows (sizesOf b .phases) N inRange)
-        ∙ every-all (sizesOf b .phases) (λ q. every N (λ k. inRange (q * N + k))) (λ q h. every-all N (λ k. inRange (q * N + k)) (λ k l. half (at b (5 + (q * N + k))) (impulse-bound q k h l .1))),
-    every-all (sizesOf b .phases) (λ q. leb (phaseSum b q) 65536) (λ q h. le-leb (phaseSum b q) 65536 (rw (phaseSum-stored b q h) (le-trans (total-≤ N (λ k l. impulse-bound q k h l .0)) low))),
+    sym (every-rows M N inRange) ∙ every-all M (λ q. every N (λ k. inRange (q * N + k))) (λ q h. every-all N (λ k. inRange (q * N + k)) (λ k l. half (at b (5 + (q * N + k))) (impulse-bound q k h l .1))),
+    every-all M (λ q. leb (phaseSum b q) 65536) (λ q h. le-leb (phaseSum b q) 65536 (rw (sum-is q h) (le-trans (total-≤ N (λ k l. impulse-bound q k h l .0)) low))),
   )
+
+  -- the differences of every row but the last
+  module _ (tests : (p i : ℕ) → p + 1 < rows → i < 4 * N → Passed b (M * N) N (5 + p * (4 * N)) i (at bounds i)) where
+    abbrev right : ℕ → Bool
+    right = rightAt b (5 + M * N) (5 + N) 5
+
+    difference-right : (q k : ℕ) → q + 4 < M → k < N → right (q * N + k) ≡ true
+    difference-right q k h l =
+        let i = q % 4 * N + k in
+        let here = place q k in
+        let next : 5 + q / 4 * (4 * N) + N + i ≡ 5 + ((q + 1) * N + k) = omega (arith, here) in
+        let t = tested-more (four bounds N k (q % 4) (omega arith)) (tests (q / 4) i (omega arith) (row-below {q = q % 4} {m = 4} (omega arith) l) .tested) in
+        let e = t .right (bound-low bounds N k (tap-low k l) .0) (rw next (impulse-bound (q + 1) k (omega arith) l .1)) (rw here (impulse-bound q k (omega arith) l .1)) in
+        same-words b (omega (arith, here)) (omega (arith, here)) (sym here) ∙ eqZ-yes e
+
+    pub differences-settled : 1 ≤ rows → (4 * N ≤ M * N) × (every (M * N - 4 * N) right ≡ true)
+    differences-settled h =
+        let m = M - 4 in
+        let phases : M ≡ m + 4 = omega arith in
+        let array : M * N ≡ m * N + 4 * N = omega (arith, ap (λ z. z * N) phases) in
+        let count : M * N - 4 * N ≡ m * N = omega (arith, array) in
+        let rows-right = every-all m (λ q. every N (λ k. right (q * N + k))) (λ q l. every-all N (λ k. right (q * N + k)) (λ k n. difference-right q k (omega arith) n)) in
+        (omega (arith, array), ap (λ j. every j right) count ∙ sym (every-rows m N right) ∙ rows-right)
 
 -- ---- what the sums of taps settle
 
@@ -162,13 +218,14 @@ module _ (b : List ℤ) where
       every-split m n f ∙ &&-both e (every-ext n (λ k h. ap (λ i. within (negsuc 32767) (pos 32767) (at b i)) (omega arith)) ∙ d)
 
   -- so no number 4 and no number 7
-  pub settled : length b ≡ bookLength (sizesOf b) → (wordsInRange b 5 (sizesOf b .phases * sizesOf b .taps) ≡ true) × (every (sizesOf b .phases) (λ q. leb (phaseSum b q) 65536) ≡ true)
-      → tapSum (levelTaps b) ≤ 32767 → tapSum (decimationTaps b) ≤ 32767 → (coefficientsInRange b ≡ true) × (sumsInRange b ≡ true)
+  pub settled : {M N : ℕ} → M ≡ sizesOf b .phases → N ≡ sizesOf b .taps → length b ≡ bookLength (sizesOf b)
+      → (wordsInRange b 5 (M * N) ≡ true) × (every M (λ q. leb (phaseSum b q) 65536) ≡ true) → tapSum (levelTaps b) ≤ 32767 → tapSum (decimationTaps b) ≤ 32767
+      → (coefficientsInRange b ≡ true) × (sumsInRange b ≡ true)
   unfolding coefficientsInRange sumsInRange levelTaps decimationTaps bookLength decimationTapsAt
-  settled l (words, sums) h g =
+  settled m n l (words, sums) h g =
       let s = sizesOf b in
       let level = taps-settled (levelTapsAt s) (s .reach + 1) (omega arith) h in
       let decimation = taps-settled (decimationTapsAt s) (s .decimation + 1) (omega arith) g in (
-        &&-both words (words-behind (levelTapsAt s) (s .reach + 1) (s .decimation + 1) level decimation),
-        &&-both (&&-both sums (le-leb (tapSum (levelTaps b)) 32768 (omega arith))) (le-leb (tapSum (decimationTaps b)) 32768 (omega arith)),
+        &&-both (rw (m, n) at words) (words-behind (levelTapsAt s) (s .reach + 1) (s .decimation + 1) level decimation),
+        &&-both (&&-both (rw m at sums) (le-leb (tapSum (levelTaps b)) 32768 (omega arith))) (le-leb (tapSum (decimationTaps b)) 32768 (omega arith)),
       )

@@ -1,5 +1,5 @@
 -- The laws of refusal numbers. Assumes nothing.
-use mathlib.Core.Path.{_≡_, refl, sym, _∙_}
+use mathlib.Core.Path.{_≡_, refl, sym, ap, _∙_}
 use mathlib.Core.Bool.{Bool, true, false, not}
 use Prim.Native.Nat.{ℕ, zero, suc}
 use native.Mathlib.Omega.{arith}
@@ -51,3 +51,7 @@ otherwise-none (suc m) = refl
 -- a number n that a function gave, the m of a definition, hides those after it
 pub number-stays : {m n : ℕ} (next : ℕ) → n ≡ m → (n ≡ 0 → ⊥) → n ≡ m otherwise next
 number-stays {m} next e given = e ∙ sym (otherwise-first m next (λ z. given (e ∙ z)))
+
+-- and one that is not given leaves the next: m, which a definition has, is a number that a function gave as 0
+pub after-none : {m n : ℕ} (next : ℕ) → n ≡ m → n ≡ 0 → m otherwise next ≡ next
+after-none {m} next e none = ap (λ k. k otherwise next) (sym e ∙ none) ∙ zero-otherwise next

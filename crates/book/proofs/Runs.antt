@@ -1,14 +1,14 @@
 -- The rule of the differences, phase by phase, is one of three runs of words: every phase but the last, the last phase but its last
 -- tap, and that tap. Assumes nothing.
 use mathlib.Core.Path.{_≡_, refl, sym, ap, ap₂, _∙_}
-use mathlib.Core.Bool.{Bool, _&&_}
+use mathlib.Core.Bool.{Bool, true, _&&_}
 use mathlib.Core.List.{List}
-use Prim.Native.Nat.{ℕ, suc, _+_, _-_, _*_, _<_, pred}
+use Prim.Native.Nat.{ℕ, suc, _+_, _-_, _*_, _≤_, _<_, pred}
 use native.Mathlib.Omega.{arith}
 use lib.IntN.{ℤ, pos, _-ℤ_}
 use Rattle.arith.specs.Lists.{at}
 use Rattle.arith.specs.Tests.{eqZ, every}
-use Rattle.arith.proofs.Tests.{every-ext, every-rows}
+use Rattle.arith.proofs.Tests.{every-ext, every-rows, every-split}
 use Rattle.book.specs.Book.{sizesOf, differencesAt, impulseWord, impulse, difference}
 use Rattle.book.specs.Check.{differencesRight}
 use Rattle.book.proofs.Bounds.{Bounded}
@@ -19,7 +19,7 @@ abbrev pub rightAt : List ℤ → ℕ → ℕ → ℕ → ℕ → Bool
 rightAt b to next from i = eqZ (at b (to + i)) (at b (next + i) -ℤ at b (from + i))
 
 -- three words, found at other indices
-same-words : (b : List ℤ) {i i′ j j′ k k′ : ℕ} → i ≡ i′ → j ≡ j′ → k ≡ k′ → eqZ (at b i) (at b j -ℤ at b k) ≡ eqZ (at b i′) (at b j′ -ℤ at b k′)
+pub same-words : (b : List ℤ) {i i′ j j′ k k′ : ℕ} → i ≡ i′ → j ≡ j′ → k ≡ k′ → eqZ (at b i) (at b j -ℤ at b k) ≡ eqZ (at b i′) (at b j′ -ℤ at b k′)
 same-words b p q r = ap₂ eqZ (ap (at b) p) (ap₂ _-ℤ_ (ap (at b) q) (ap (at b) r))
 
 module _ (b : List ℤ) (m n : ℕ) (phases-are : sizesOf b .phases ≡ suc m) (taps-are : sizesOf b .taps ≡ suc n) where
@@ -75,9 +75,20 @@ module _ (b : List ℤ) (m n : ℕ) (phases-are : sizesOf b .phases ≡ suc m) (
       ap (λ p. every p (λ q. every N (D q))) phases-are ∙ ap₂ _&&_ first (ap (λ p. every p (D m)) taps-are ∙ ap₂ _&&_ second final)
 
 -- the same over an array of A words and phases of N
-pub differences-runs : (b : List ℤ) (A N : ℕ) → Bounded (sizesOf b) → A ≡ sizesOf b .phases * sizesOf b .taps → N ≡ sizesOf b .taps
+all-runs : (b : List ℤ) (A N : ℕ) → Bounded (sizesOf b) → A ≡ sizesOf b .phases * sizesOf b .taps → N ≡ sizesOf b .taps
     → differencesRight b ≡ every (A - N) (rightAt b (5 + A) (5 + N) 5) && (every (N - 1) (rightAt b (5 + A + (A - N)) 6 (5 + (A - N))) && eqZ (at b (4 + A + A)) (pos 0 -ℤ at b (4 + A)))
-differences-runs b A N f array taps =
+all-runs b A N f array taps =
     let m : sizesOf b .phases ≡ suc (pred (sizesOf b .phases)) = omega (arith, f .phases-low) in
     let n : sizesOf b .taps ≡ suc (pred (sizesOf b .taps)) = omega (arith, f .taps-low) in
     rw (array, taps) (runs b _ _ m n)
+
+-- and where the first s differences are right
+pub differences-runs : (b : List ℤ) (A N s : ℕ) → Bounded (sizesOf b) → A ≡ sizesOf b .phases * sizesOf b .taps → N ≡ sizesOf b .taps → s + N ≤ A → every s (rightAt b (5 + A) (5 + N) 5) ≡ true
+    → differencesRight b
+    ≡ every (A - N - s) (rightAt b (5 + A + s) (5 + N + s) (5 + s)) && (every (N - 1) (rightAt b (5 + A + (A - N)) 6 (5 + (A - N))) && eqZ (at b (4 + A + A)) (pos 0 -ℤ at b (4 + A)))
+differences-runs b A N s f array taps room right =
+    let early : ℕ → Bool = rightAt b (5 + A) (5 + N) 5 in
+    let parts : A - N ≡ s + (A - N - s) = omega arith in
+    let rest = every-ext (A - N - s) {f = λ i. early (s + i)} {g = rightAt b (5 + A + s) (5 + N + s) (5 + s)} (λ i h. same-words b (omega arith) (omega arith) (omega arith)) in
+    let known = ap (λ j. every j early) parts ∙ every-split s (A - N - s) early ∙ ap (λ t. t && every (A - N - s) (λ i. early (s + i))) right ∙ rest in
+    all-runs b A N f array taps ∙ ap (λ t. t && (every (N - 1) (rightAt b (5 + A + (A - N)) 6 (5 + (A - N))) && eqZ (at b (4 + A + A)) (pos 0 -ℤ at b (4 + A)))) known

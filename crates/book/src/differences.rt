@@ -43,15 +43,23 @@ fn run_right(book: &[i32], to: usize, next: usize, from: usize, count: usize) ->
     misses == 0
 }
 
-// Number 6. The next phase's impulses lie N words on; after the last phase they are G_0[1], .., G_0[N−1] and 0.
-pub(crate) fn differences_right(book: &[i32], array: usize, taps: usize) -> bool
+// Number 6, where the first `start` differences are right. The next phase's impulses lie N words on; after the last phase they are
+// G_0[1], .., G_0[N−1] and 0.
+pub(crate) fn differences_right(book: &[i32], array: usize, taps: usize, start: usize) -> bool
     requires { ⌜ (sizesInRange (now book) ≡ true) × (length (now book) ≡ bookLength (sizesOf (now book))) ⌝ }
     requires { ⌜ (array ≡ sizesOf (now book) .phases * sizesOf (now book) .taps) × (taps ≡ sizesOf (now book) .taps) ⌝ }
     requires { ⌜ coefficientsInRange (now book) ≡ true ⌝ }
+    requires { ⌜ (start + taps ≤ array) × (every start (λ i. eqZ (at (now book) (5 + array + i)) (at (now book) (5 + taps + i) -ℤ at (now book) (5 + i))) ≡ true) ⌝ }
     ensures { λ r. ⌜ r ≡ differencesRight (now (book .entry)) ⌝ }
 {
     let last = array - taps;
-    if !run_right(book, 5 + array, 5 + taps, 5, last) {
+    if !run_right(
+        book,
+        5 + array + start,
+        5 + taps + start,
+        5 + start,
+        last - start,
+    ) {
         return false;
     }
     if !run_right(book, 5 + array + last, 6, 5 + last, taps - 1) {

@@ -12,7 +12,7 @@ ghost use Rattle.book.specs.Book.{sizesOf, bookLength, impulse, levelTap
 ghost use Rattle.book.specs.Check.{sizesInRange, coefficientsInRange, differencesRight, bookNumber};
 use arith::words::word_size;
 
-mod columns; // numbers 4 and 7 of the usual book
+mod columns; // numbers 4, 6 and 7 of the usual book
 mod differences; // number 6
 mod ranges; // numbers 2 and 4
 mod sums; // number 7
@@ -45,6 +45,17 @@ pub fn read_sizes(book: &[i32]) -> Sizes
     }
 }
 
+// Number 5.
+fn zero_number(book: &[i32]) -> u32
+    requires { ⌜ (sizesInRange (now book) ≡ true) × (length (now book) ≡ bookLength (sizesOf (now book))) ⌝ }
+    ensures { λ r. ⌜ r ≡ refuse 5 (not (eqZ (impulse (now (book .entry)) 0 0) (pos 0))) ⌝ }
+{
+    if book[5] != 0 {
+        return 5;
+    }
+    0
+}
+
 // Numbers 5 and 6, of a book without number 4.
 fn impulse_number(book: &[i32], array: usize, taps: usize) -> u32
     requires { ⌜ (sizesInRange (now book) ≡ true) × (length (now book) ≡ bookLength (sizesOf (now book))) ⌝ }
@@ -52,10 +63,11 @@ fn impulse_number(book: &[i32], array: usize, taps: usize) -> u32
     requires { ⌜ coefficientsInRange (now book) ≡ true ⌝ }
     ensures { λ r. ⌜ r ≡ (refuse 5 (not (eqZ (impulse (now (book .entry)) 0 0) (pos 0))) otherwise refuse 6 (not (differencesRight (now (book .entry))))) ⌝ }
 {
-    if book[5] != 0 {
-        return 5;
+    let number = zero_number(book);
+    if number != 0 {
+        return number;
     }
-    if differences::differences_right(book, array, taps) {
+    if differences::differences_right(book, array, taps, 0) {
         return 0;
     }
     6
@@ -81,7 +93,7 @@ pub fn check(book: &[i32]) -> u32
         return 3;
     }
     if columns::settled(book, phases, taps, level_taps, decimation_taps) {
-        return impulse_number(book, array, taps);
+        return zero_number(book);
     }
     if !ranges::coefficients_in_range(book, array) {
         return 4;

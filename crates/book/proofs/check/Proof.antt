@@ -97,7 +97,9 @@ module _ (c : tie.Else3) where
   places-are = (sym (level-at (s r)) ∙ ap levelTapsAt (sizes-are r), sym (decimation-at (s r)) ∙ ap decimationTapsAt (sizes-are r))
 
 -- the bounds settle numbers 4 and 7, or the exact tests do
-by-bounds : (c : tie.Then4) → (coefficientsInRange (book (c .before .before)) ≡ true) × (sumsInRange (book (c .before .before)) ≡ true)
+by-bounds : (c : tie.Then4)
+    → let b = book (c .before .before) in
+    (coefficientsInRange b ≡ true) × (sumsInRange b ≡ true) × (differencesRight b ≡ true)
 by-bounds c = c .before .settled .ensures (c .if4 .taken)
 
 ranged : (c : tie.Else5) → coefficientsInRange (book (c .before .before .before .before)) ≡ true
@@ -150,15 +152,15 @@ returns-3 c =
 settled-requires : tie.Need-settled-requires
 settled-requires c κs = (known c, ((phases-are c, taps-are c), places-are c))
 
-impulse-number-requires : tie.Need-impulse-number-requires
-impulse-number-requires c κs = let e = c .before .before in (known e, ((array-is e, taps-are e), by-bounds c .0))
+zero-number-requires : tie.Need-zero-number-requires
+zero-number-requires c κs = known (c .before .before)
 
 returns-4 : tie.Need-returns-4
-unfolding refuse
+unfolding refuse _otherwise_
 returns-4 c =
     let e = c .before .before .before in
     let y = by-bounds (c .before) in
-    c .impulse-number .ensures ∙ sym (otherwise-none (fifth (book e) otherwise sixth (book e))) ∙ sym (from-5 e (y .0) ∙ ap (λ t. (fifth (book e) otherwise sixth (book e)) otherwise refuse 7 (not t)) (y .1))
+    c .zero-number .ensures ∙ sym (from-4 e ∙ simp (y .0, y .1, y .2) (otherwise-none (fifth (book e))))
 
 coefficients-in-range-requires : tie.Need-coefficients-in-range-requires
 coefficients-in-range-requires c κs = let e = c .before .before in (known e, array-is e)
@@ -167,14 +169,14 @@ returns-5 : tie.Need-returns-5
 unfolding refuse _otherwise_
 returns-5 c = sym (from-4 (c .before .before .before .before) ∙ simp (test-fails (c .before .coefficients-in-range .ensures) (c .if5 .taken)))
 
-impulse-number-requires-2 : tie.Need-impulse-number-requires-2
-impulse-number-requires-2 c κs = let e = c .before .before .before .before in (known e, ((array-is e, taps-are e), ranged c))
+impulse-number-requires : tie.Need-impulse-number-requires
+impulse-number-requires c κs = let e = c .before .before .before .before in (known e, ((array-is e, taps-are e), ranged c))
 
 returns-6 : tie.Need-returns-6
 returns-6 c =
     let n = c .before in
     let e = n .before .before .before .before .before in
-    number-stays (refuse 7 (not (sumsInRange (book e)))) (n .impulse-number2 .ensures) (c .if6 .taken) ∙ sym (from-5 e (ranged (n .before)))
+    number-stays (refuse 7 (not (sumsInRange (book e)))) (n .impulse-number .ensures) (c .if6 .taken) ∙ sym (from-5 e (ranged (n .before)))
 
 sums-in-range-requires : tie.Need-sums-in-range-requires
 sums-in-range-requires c κs =
@@ -188,7 +190,7 @@ unfolding _otherwise_
 seventh c =
     let n = c .before in
     let e = n .before .before .before .before .before in
-    from-5 e (ranged (n .before)) ∙ ap (λ m. m otherwise refuse 7 (not (sumsInRange (book e)))) (sym (n .impulse-number2 .ensures) ∙ c .if6 .left)
+    from-5 e (ranged (n .before)) ∙ ap (λ m. m otherwise refuse 7 (not (sumsInRange (book e)))) (sym (n .impulse-number .ensures) ∙ c .if6 .left)
 
 returns-7 : tie.Need-returns-7
 unfolding refuse
@@ -215,11 +217,11 @@ check-spec =
     add-if3-2
     returns-3
     settled-requires
-    impulse-number-requires
+    zero-number-requires
     returns-4
     coefficients-in-range-requires
     returns-5
-    impulse-number-requires-2
+    impulse-number-requires
     returns-6
     sums-in-range-requires
     returns-7

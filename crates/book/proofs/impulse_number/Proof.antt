@@ -1,58 +1,45 @@
--- `book::impulse_number` meets its contract: G_0[0] is word 5. Assumes nothing.
+-- `book::impulse_number` meets its contract. Assumes nothing.
 use borrow.Author.Needs.{needs}
-use mathlib.Core.Bool.{true, false}
-use mathlib.Core.Path.{_≡_, sym, ap, _∙_}
-use Prim.Native.Nat.{_+_, _*_}
+use mathlib.Core.Bool.{not}
+use mathlib.Core.Path.{_≡_, refl, sym, ap, _∙_}
 use native.Mathlib.Omega.{arith}
+use Prim.Native.Nat.{_≤_}
 use lib.IntN.{pos}
-use mir.Syntax.{w32}
-use mir.Val.{SFits, ofZ, toZ}
-use mir.ValLaws.{toZ-ofZ}
-use Rattle.arith.specs.Lists.{at}
-use Rattle.arith.specs.Tests.{eqZ}
-use Rattle.arith.proofs.Tests.{eqZ-yes, eqZ-no}
+use Rattle.arith.specs.Tests.{eqZ, every}
 use Rattle.book.specs.Number.{refuse, _otherwise_}
-use Rattle.book.specs.Book.{sizesOf, impulseWord, impulse}
-use Rattle.book.proofs.Bounds.{bounded, length-is}
-use Rattle.book.proofs.Parts.{impulse-stored}
+use Rattle.book.specs.Book.{impulse}
+use Rattle.book.specs.Check.{differencesRight}
+use Rattle.book.proofs.Bounds.{bounded, array-low}
+use Rattle.book.proofs.Numbers.{number-stays, after-none}
 use Rattle.book.proofs.impulse_number.Statement.{statement}
 use Rattle.book.proofs.impulse_number.Tie as tie
 
-first-impulse : (c : tie.Start) → impulse (c .args .book .now) 0 0 ≡ at (c .args .book .now) 5
-unfolding impulseWord
-first-impulse c =
-    let b = c .args .book .now in
-    let place : 5 + (0 * sizesOf b .taps + 0) ≡ 5 = omega arith in
-    impulse-stored b 0 0 (bounded b (c .pre .0 .0) .phases-low) ∙ ap (at b) place
-
-word-fits : (c : tie.After-if12) → SFits w32 (at (c .before .args .book .now) 5)
-word-fits c = record { sfits = c .if12 .given }
-
-zeroed : (c : tie.Else1) → eqZ (impulse (c .before .before .args .book .now) 0 0) (pos 0) ≡ true
-zeroed c = eqZ-yes (first-impulse (c .before .before) ∙ sym (toZ-ofZ w32 _ (word-fits (c .before))) ∙ ap (toZ w32) (c .if1 .left))
-
-shared-slice-copy-out-if1 : tie.Need-shared-slice-copy-out-if1
-shared-slice-copy-out-if1 c = omega (arith, length-is (sizesOf (c .args .book .now)))
+zero-number-requires : tie.Need-zero-number-requires
+zero-number-requires c κs = search needs
 
 returns : tie.Need-returns
-unfolding refuse _otherwise_
-returns c =
-    let s = c .before .before in
-    let nonzero : eqZ (impulse (s .args .book .now) 0 0) (pos 0) ≡ false = rw (first-impulse s) (eqZ-no _ _ (λ e. c .if1 .taken (ap (ofZ w32) e))) in
-    simp nonzero
+returns c = number-stays _ (c .before .zero-number .ensures) (c .if1 .taken)
 
 differences-right-requires : tie.Need-differences-right-requires
-differences-right-requires c κs = search needs
+unfolding every
+differences-right-requires c κs =
+    let s = c .before .before in
+    (s .pre .0, (s .pre .1 .0, (s .pre .1 .1, (omega (arith, array-low (bounded _ (s .pre .0 .0))), refl))))
+
+-- without number 5 it is number 6
+sixth : (c : tie.After-differences-right) → let b = c .before .before .before .args .book .now in
+    (refuse 5 (not (eqZ (impulse b 0 0) (pos 0))) otherwise refuse 6 (not (differencesRight b))) ≡ refuse 6 (not (c .differences-right .result))
+sixth c = after-none _ (c .before .before .zero-number .ensures) (c .before .if1 .left) ∙ ap (λ t. refuse 6 (not t)) (sym (c .differences-right .ensures))
 
 returns-2 : tie.Need-returns-2
-unfolding refuse _otherwise_
-returns-2 c = simp (zeroed (c .before .before), sym (c .before .differences-right .ensures) ∙ c .if2 .taken)
+unfolding refuse
+returns-2 c = sym (sixth (c .before) ∙ simp (c .if2 .taken))
 
 returns-3 : tie.Need-returns-3
-unfolding refuse _otherwise_
-returns-3 c = simp (zeroed (c .before .before), sym (c .before .differences-right .ensures) ∙ c .if2 .left)
+unfolding refuse
+returns-3 c = sym (sixth (c .before) ∙ simp (c .if2 .left))
 
 pub impulse-number-spec : {M : Type 1} → statement M
 impulse-number-spec =
     tie.close
-    (tie.spec shared-slice-copy-out-if1 returns differences-right-requires returns-2 returns-3)
+    (tie.spec zero-number-requires returns differences-right-requires returns-2 returns-3)

@@ -2,18 +2,16 @@
 use mathlib.Core.Path.{_≡_}
 use mathlib.Core.List.{List}
 use Prim.Native.Nat.{ℕ, _+_, _-_, _≤_, _<_}
-use native.Mathlib.Decide.{ℕ-discrete}
 use native.Mathlib.Omega.{arith}
 use borrow.Author.Needs.{needs}
-use lib.IntN.{ℤ, pos}
-use lib.ListN.{length, set}
-use lib.Seq.{getD-set-same}
+use lib.IntN.{ℤ}
+use lib.ListN.{length}
 use mir.Syntax.{w16, w32}
 use mir.Val.{SFits}
 use Rattle.arith.specs.Lists.{at}
 use Rattle.arith.proofs.Bits.{reads}
 use Rattle.book.specs.Columns.{larger, Bounds, Raised}
-use Rattle.book.proofs.ColumnBounds.{at-least, bounds-more, bounds-word, raised-same, raised-more, raised-set}
+use Rattle.book.proofs.ColumnBounds.{at-least, bounds-more, bounds-word, raised-same, raised-more, raised-set, raised-next}
 use Rattle.book.proofs.columns.raise.Statement.{statement}
 use Rattle.book.proofs.columns.raise.Tie as tie
 
@@ -108,25 +106,17 @@ word-bound c =
     let f = simp (reads, narrow-fits c) at (c .before .folded .ensures) in
     bounds-more (at-least (bound-is c) .1) (bounds-word (word c (k c)) (c .before .before .narrow .result) (c .before .folded .result) n f)
 
-module _ (c : tie.After-larger Inv-loop μ-loop) where
-  abbrev after : List ℤ
-  after = set (bounds c) (k c) (bound c)
-
-  inside : k c < length (bounds c)
-  inside = omega (arith, t c .loop .inv .2 .words)
-
-  risen : Raised (bounds c) after
-  risen = raised-set (bounds c) (k c) (bound c) inside (at-least (bound-is c) .0)
-
-  bounds-all : (j : ℕ) → t c .before .args .column ≤ j → j < k c + 1 → Bounds (at after j) (word c j)
-  bounds-all j h l = go (ℕ-discrete j (k c))
-    where
-      go : Dec (j ≡ k c) → Bounds (at after j) (word c j)
-      go (yes p) = rw (p, getD-set-same (bounds c) (k c) (bound c) (pos 0) inside) (word-bound c)
-      go (no n) = bounds-more (risen .rise j) (t c .loop .inv .3 j h (omega arith))
+inside : (c : tie.After-larger Inv-loop μ-loop) → k c < length (bounds c)
+inside c = omega (arith, t c .loop .inv .2 .words)
 
 loop-again : tie.Need-loop-again Inv-loop μ-loop
-loop-again c = (omega arith, omega arith, simp (reads, bound-fits c) (raised-more (t c .loop .inv .2) (risen c)), simp (reads, bound-fits c) (bounds-all c))
+loop-again c =
+    let rises = at-least (bound-is c) .0 in (
+      omega arith,
+      omega arith,
+      simp (reads, bound-fits c) (raised-more (t c .loop .inv .2) (raised-set (bounds c) (k c) (bound c) (inside c) rises)),
+      simp (reads, bound-fits c) (raised-next (λ j x. Bounds x (word c j)) (λ j x y. bounds-more) (bounds c) (t c .before .args .column) (k c) (bound c) (inside c) rises (word-bound c) (t c .loop .inv .3)),
+    )
 
 same-length : tie.Need-same-length Inv-loop μ-loop
 same-length c = c .before .loop .inv .2 .words

@@ -26,18 +26,26 @@ module _ (c : tie.Start) where
       let f = bounded b (c .pre .0 .0) in
       omega (arith, length-is (sizesOf b), array-low f, array-high f, f .taps-low)
 
-  -- the rule, over the code's numbers
+  abbrev A : ℕ
+  A = c .args .array
+
+  abbrev N : ℕ
+  N = c .args .taps
+
+  abbrev start : ℕ
+  start = c .args .start
+
+  -- the rule, over the code's numbers, without the differences that are known to be right
   rule : differencesRight b
-      ≡ every (c .args .array - c .args .taps) (rightAt b (5 + c .args .array) (5 + c .args .taps) 5)
-      && (every (c .args .taps - 1) (rightAt b (5 + c .args .array + (c .args .array - c .args .taps)) 6 (5 + (c .args .array - c .args .taps)))
-      && eqZ (at b (4 + c .args .array + c .args .array)) (pos 0 -ℤ at b (4 + c .args .array)))
-  rule = differences-runs b (c .args .array) (c .args .taps) (bounded b (c .pre .0 .0)) (c .pre .1 .0 .0) (c .pre .1 .0 .1)
+      ≡ every (A - N - start) (rightAt b (5 + A + start) (5 + N + start) (5 + start))
+      && (every (N - 1) (rightAt b (5 + A + (A - N)) 6 (5 + (A - N))) && eqZ (at b (4 + A + A)) (pos 0 -ℤ at b (4 + A)))
+  rule = differences-runs b A N start (bounded b (c .pre .0 .0)) (c .pre .1 .0 .0) (c .pre .1 .0 .1) (c .pre .1 .1 .1 .0) (c .pre .1 .1 .1 .1)
 
   -- the impulses from two places on
   small : (m n count : ℕ) → 5 ≤ m → 5 ≤ n → m + count ≤ 5 + c .args .array → n + count ≤ 5 + c .args .array
       → (i : ℕ) → i < count → (natAbs (at b (m + i)) ≤ 32768) × (natAbs (at b (n + i)) ≤ 32768)
   small m n count h l p q i less =
-      let s = impulses-small b (c .pre .1 .1) in
+      let s = impulses-small b (c .pre .1 .1 .0) in
       (s (m + i) (omega arith) (omega arith), s (n + i) (omega arith) (omega arith))
 
 sub-last : tie.Need-sub-last
@@ -49,23 +57,35 @@ add-run-right c = omega (arith, room c)
 add-run-right-2 : tie.Need-add-run-right-2
 add-run-right-2 c = omega (arith, room c)
 
+add-run-right-3 : tie.Need-add-run-right-3
+add-run-right-3 c = omega (arith, room c)
+
+add-run-right-4 : tie.Need-add-run-right-4
+add-run-right-4 c = omega (arith, room c)
+
+add-run-right-5 : tie.Need-add-run-right-5
+add-run-right-5 c = omega (arith, room c)
+
+sub-run-right : tie.Need-sub-run-right
+sub-run-right c = omega (arith, room c)
+
 run-right-requires : tie.Need-run-right-requires
 run-right-requires c κs = let r = room c in (omega arith, small c _ _ _ (omega arith) (omega arith) (omega arith) (omega arith))
 
 returns : tie.Need-returns
 returns c = simp (rule (c .before .before), test-fails (c .before .run-right .ensures) (c .if1 .taken))
 
-add-run-right-3 : tie.Need-add-run-right-3
-add-run-right-3 c = omega (arith, room (c .before .before))
+add-run-right-6 : tie.Need-add-run-right-6
+add-run-right-6 c = omega (arith, room (c .before .before))
 
-add-run-right-4 : tie.Need-add-run-right-4
-add-run-right-4 c = omega (arith, room (c .before .before))
+add-run-right-7 : tie.Need-add-run-right-7
+add-run-right-7 c = omega (arith, room (c .before .before))
 
-add-run-right-5 : tie.Need-add-run-right-5
-add-run-right-5 c = omega (arith, room (c .before .before))
+add-run-right-8 : tie.Need-add-run-right-8
+add-run-right-8 c = omega (arith, room (c .before .before))
 
-sub-run-right : tie.Need-sub-run-right
-sub-run-right c = omega (arith, room (c .before .before))
+sub-run-right-2 : tie.Need-sub-run-right-2
+sub-run-right-2 c = omega (arith, room (c .before .before))
 
 run-right-requires-2 : tie.Need-run-right-requires-2
 run-right-requires-2 c κs =
@@ -112,12 +132,16 @@ differences-right-spec =
     sub-last
     add-run-right
     add-run-right-2
-    run-right-requires
-    returns
     add-run-right-3
     add-run-right-4
     add-run-right-5
     sub-run-right
+    run-right-requires
+    returns
+    add-run-right-6
+    add-run-right-7
+    add-run-right-8
+    sub-run-right-2
     run-right-requires-2
     returns-2
     add-word-negated
