@@ -50,10 +50,7 @@ fn zero_number(book: &[i32]) -> u32
     requires { ⌜ (sizesInRange (now book) ≡ true) × (length (now book) ≡ bookLength (sizesOf (now book))) ⌝ }
     ensures { λ r. ⌜ r ≡ refuse 5 (not (eqZ (impulse (now (book .entry)) 0 0) (pos 0))) ⌝ }
 {
-    if book[5] != 0 {
-        return 5;
-    }
-    0
+    if book[5] != 0 { 5 } else { 0 }
 }
 
 // Numbers 5 and 6, of a book without number 4.

@@ -61,7 +61,7 @@ mul-differences-right : tie.Need-mul-differences-right
 mul-differences-right c = omega (arith, room c)
 
 sub-differences-right : tie.Need-sub-differences-right
-sub-differences-right c = room c .1
+sub-differences-right c = omega (arith, room c)
 
 differences-right-requires : tie.Need-differences-right-requires
 differences-right-requires c κs =
