@@ -31,7 +31,8 @@ fn larger(x: i16, y: i16) -> i16
     if x < y { y } else { x }
 }
 
-// Raises the `count` bounds from `column` on to those of the words that lie so far behind place `row`.
+// Raises the `count` bounds from `column` on to those of the words that lie so far behind place `row`. The counts of its two callers differ: if both
+// were the literal, the compiler would unroll it here, and then find it too long to put it into their loops.
 fn raise(bounds: &mut [i16], book: &[i32], column: usize, row: usize, count: usize)
     requires { ⌜ (column + count ≤ length (now bounds)) × (row + (column + count) ≤ length (now book)) ⌝ }
     ensures { λ _. ⌜ Raised (now (bounds .entry)) (now (bounds .exit)) ⌝ }
@@ -44,7 +45,7 @@ fn raise(bounds: &mut [i16], book: &[i32], column: usize, row: usize, count: usi
     }
 }
 
-// The number that the 32 bits of x are without a sign. The compiler makes nothing of it.
+// The number that the 32 bits of x are without a sign: no instruction.
 fn bits(x: i32) -> u32
     ensures { λ r. ⌜ pos r ≡ x +ℤ pos (2 ^ 32 * cond (ltZ x (pos 0)) 1 0) ⌝ }
 {
@@ -54,7 +55,8 @@ fn bits(x: i32) -> u32
     x as u32
 }
 
-// Whether the bits of two words add up to those of a third: this asks nothing of the words, and of impulses in range it tests the difference.
+// Whether the bits of `difference` and `from` add up to those of `next`, modulo 2^32. It asks for no range, so that it can be tested before the range
+// is known; of impulses in range it then tells that the difference is right.
 fn follows(difference: i32, next: i32, from: i32) -> bool
     ensures { λ r. ⌜ (r ≡ true → natAbs next ≤ 32767 → natAbs from ≤ 32767 → difference ≡ next -ℤ from) ⌝ }
 {
@@ -68,7 +70,7 @@ fn kept(bound: i16, right: bool) -> i16
     if right { bound } else { 32767 }
 }
 
-// Takes away those of the eight bounds from `column` on whose differences are wrong: the words so far behind place `to`.
+// Takes away each of the eight bounds from `column` on whose difference is wrong: the word that lies so far behind place `to`.
 fn mark(bounds: &mut [i16], book: &[i32], column: usize, to: usize, next: usize, from: usize)
     requires { ⌜ (column + 8 ≤ length (now bounds)) × (to + (column + 8) ≤ length (now book)) × (next + (column + 8) ≤ length (now book)) × (from + (column + 8) ≤ length (now book)) ⌝ }
     ensures { λ _. ⌜ Raised (now (bounds .entry)) (now (bounds .exit)) ⌝ }
