@@ -3,7 +3,6 @@ use borrow.Author.Needs.{needs}
 use mathlib.Core.Bool.{not}
 use mathlib.Core.Path.{_≡_, refl, sym, ap, _∙_}
 use native.Mathlib.Omega.{arith}
-use Prim.Native.Nat.{_≤_}
 use lib.IntN.{pos}
 use Rattle.arith.specs.Tests.{eqZ, every}
 use Rattle.book.specs.Number.{refuse, _otherwise_}

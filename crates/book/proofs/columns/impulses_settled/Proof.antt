@@ -19,7 +19,7 @@ use Rattle.arith.proofs.Parts.{zeros-every}
 use Rattle.book.specs.Book.{sizesOf}
 use Rattle.book.specs.Columns.{Bounds, Passed, tapBound}
 use Rattle.book.proofs.Bounds.{Bounded, bounded, array-high, length-is}
-use Rattle.book.proofs.ColumnBounds.{bounds-more, passed-more, impulses-settled, differences-settled}
+use Rattle.book.proofs.ColumnBounds.{passed-more, impulses-settled, differences-settled}
 use Rattle.book.proofs.columns.impulses_settled.Statement.{statement}
 use Rattle.book.proofs.columns.impulses_settled.Tie as tie
 
