@@ -1,2 +1,3 @@
 pub mod Octave
 pub mod PairSums
+pub mod SampleBits

@@ -1,8 +1,8 @@
--- Sums of pairs of taps times words in two parts: they are the sums around the words of a level, they are small, and rounded they are words of
+-- Sums of pairs of taps times words in one part or two: they are the sums around the words of a level, they are small, and rounded they are words of
 -- the level above. Assumes nothing.
 use mathlib.Core.Path.{_≡_, refl, sym, ap, ap₂, _∙_}
 use mathlib.Core.List.{List}
-use Prim.Native.Nat.{ℕ, zero, suc, _+_, _-_, _*_, _^_, _≤_, _<_, pred}
+use Prim.Native.Nat.{ℕ, zero, suc, _+_, _-_, _*_, _/_, _%_, _^_, _≤_, _<_, pred}
 use native.Mathlib.Nat.{le-refl, le-trans, mul-le-mul}
 use native.Mathlib.Decide.{decLe}
 use native.Mathlib.Omega.{arith}
@@ -15,17 +15,17 @@ use Rattle.arith.specs.Limit.{limit}
 use Rattle.arith.specs.Lists.{at, wordAt, part, tabulate}
 use Rattle.arith.specs.Sum.{sum, total, sumAround}
 use Rattle.arith.proofs.Floor.{floor-≤, floor-<, floor-bound}
-use Rattle.arith.proofs.Integers.{abs-triangle, abs-*-≤}
-use Rattle.arith.proofs.Limit.{limit-same}
+use Rattle.arith.proofs.Integers.{abs-triangle, abs-*-≤, abs-≤}
+use Rattle.arith.proofs.Limit.{limit-between, limit-same}
 use Rattle.arith.proofs.Linear.{linear}
-use Rattle.arith.proofs.Lists.{at-outside}
+use Rattle.arith.proofs.Lists.{at-outside, at-part}
 use Rattle.arith.proofs.Parts.{tabulate-part}
 use Rattle.arith.proofs.Ring.{products, terms}
 use Rattle.arith.proofs.Sum.{sum-ext, sum-+, sum-*, sum-more, sum-abs-*, sum-around, total-mono, total-more, total-around}
 use Rattle.book.specs.Check.{tapSum}
 use Rattle.book.proofs.Around.{tap-bound}
 use Rattle.octave.specs.Octave.{halfLength, levelSum, levelWord, nextLevel}
-use Rattle.octave.specs.Inner.{Rows, upperPart, lowerPart, pairProduct, pairSum}
+use Rattle.octave.specs.Inner.{Rows, upperPart, lowerPart, samplePart, Samples, pairProduct, pairSum, placeOf, shift}
 use Rattle.octave.proofs.Octave.{length-next, at-next}
 
 -- ---- shifts
@@ -64,9 +64,81 @@ module _ (x : ℤ) where
   pub lower-small : natAbs (lowerPart x) ≤ 32768
   lower-small = simp linear (omega (arith, simp linear at (lower-between .0), simp linear at (lower-between .1)))
 
--- a tap times both parts
-whole : (t u x : ℤ) → pos 65536 *ℤ (t *ℤ u) +ℤ t *ℤ (x -ℤ u *ℤ pos 65536) ≡ t *ℤ x
-whole t u x = simp products (simp terms (omega arith))
+  pub sample-small : natAbs (samplePart x) ≤ 32768
+  sample-small =
+      let b = limit-between (negsuc 32767) (pos 32767) (floorDiv x 256) (simp linear (omega arith)) in
+      abs-≤ (samplePart x) (simp linear (omega (arith, simp linear at (b .0), simp linear at (b .1))))
+
+-- ---- sums of taps t times words x, by the words' parts
+
+module _ (n : ℕ) (t x : ℕ → ℤ) where
+  pub by-parts : pos 65536 *ℤ sum n (λ c. t c *ℤ upperPart (x c)) +ℤ sum n (λ c. t c *ℤ lowerPart (x c)) ≡ sum n (λ c. t c *ℤ x c)
+  by-parts =
+      ap (λ z. z +ℤ sum n (λ c. t c *ℤ lowerPart (x c))) (sym (sum-* n (pos 65536) (λ c. t c *ℤ upperPart (x c))))
+      ∙ sym (sum-+ n (λ c. pos 65536 *ℤ (t c *ℤ upperPart (x c))) (λ c. t c *ℤ lowerPart (x c)))
+      ∙ sum-ext n (λ c l. whole (t c) (upperPart (x c)) (x c))
+    where
+      whole : (t u x : ℤ) → pos 65536 *ℤ (t *ℤ u) +ℤ t *ℤ (x -ℤ u *ℤ pos 65536) ≡ t *ℤ x
+      whole t u x = simp products (simp terms (omega arith))
+
+  pub by-samples : ((c : ℕ) → c < n → x c ≡ pos 256 *ℤ samplePart (x c)) → pos 256 *ℤ sum n (λ c. t c *ℤ samplePart (x c)) ≡ sum n (λ c. t c *ℤ x c)
+  by-samples are = sym (sum-* n (pos 256) (λ c. t c *ℤ samplePart (x c))) ∙ sum-ext n (λ c l. moved (t c) (samplePart (x c)) ∙ ap (λ z. t c *ℤ z) (sym (are c l)))
+    where
+      moved : (t u : ℤ) → pos 256 *ℤ (t *ℤ u) ≡ t *ℤ (pos 256 *ℤ u)
+      moved t u = simp products (simp terms (omega arith))
+
+-- ---- sums over m pairs of taps t
+
+module _ (rows : List ℤ) (m : ℕ) (t : ℕ → ℤ) (weight : total (2 * m) (λ c. natAbs (t c)) ≤ 32768)
+    (are : (k j : ℕ) → k < m → j < 16 → (at rows (32 * k + 2 * j) ≡ t (2 * k)) × (at rows (32 * k + 2 * j + 1) ≡ t (2 * k + 1))) where
+  abbrev size : ℕ → ℕ
+  size c = natAbs (t c)
+
+  weights : (n : ℕ) → n ≤ m → total (2 * n) size ≤ 32768
+  weights n l = le-trans (total-mono (2 * n) (2 * m) size (omega arith)) weight
+
+  -- times words x
+  module _ (xs : List ℤ) (a b j : ℕ) (x : ℕ → ℤ) (inside : j < 16)
+      (stand : (k : ℕ) → k < m → (at xs (placeOf a b k + 2 * j) ≡ x (2 * k)) × (at xs (placeOf a b k + 2 * j + 1) ≡ x (2 * k + 1))) where
+    abbrev term : ℕ → ℤ
+    term c = t c *ℤ x c
+
+    pair-is : (k : ℕ) → k < m → pairProduct rows xs (placeOf a b k) k j ≡ term (2 * k) +ℤ term (2 * k + 1)
+    pair-is k l = ap₂ _+ℤ_ (ap₂ _*ℤ_ (are k j l inside .0) (stand k l .0)) (ap₂ _*ℤ_ (are k j l inside .1) (stand k l .1))
+
+    -- the sum of pairs is the sum over the taps
+    pub line-sum : (n : ℕ) → n ≤ m → pairSum rows xs a b n j ≡ sum (2 * n) term
+    unfolding sum
+    line-sum zero l = refl
+    line-sum (suc n) l =
+        let e : 2 * suc n ≡ 2 * n + 1 + 1 = omega arith in
+        ap₂ _+ℤ_ (line-sum n (omega arith)) (pair-is n (omega arith))
+        ∙ regroup (sum (2 * n) term) (term (2 * n)) (term (2 * n + 1))
+        ∙ ap (λ z. z +ℤ term (2 * n + 1)) (sym (sum-more (2 * n) term))
+        ∙ sym (sum-more (2 * n + 1) term)
+        ∙ ap (λ z. sum z term) (sym e)
+      where
+        regroup : (x y z : ℤ) → x +ℤ (y +ℤ z) ≡ x +ℤ y +ℤ z
+        regroup x y z = simp linear (omega arith)
+
+    module _ (bound : ℕ) (small : (c : ℕ) → natAbs (x c) ≤ bound) where
+      pub sum-small : (n : ℕ) → n ≤ m → natAbs (pairSum rows xs a b n j) ≤ 32768 * bound
+      sum-small n l = rw (line-sum n l) (le-trans (sum-abs-* (2 * n) t x bound (λ c k. small c)) (mul-le-mul (weights n l) (le-refl bound)))
+
+      pub product-small : (k : ℕ) → k < m → natAbs (pairProduct rows xs (placeOf a b k) k j) ≤ 32768 * bound
+      product-small k l =
+          let e : 2 * suc k ≡ 2 * k + 1 + 1 = omega arith in
+          let two : size (2 * k) + size (2 * k + 1) ≤ 32768 =
+          omega (arith, weights (suc k) l, ap (λ z. total z size) e, total-more (2 * k + 1) size, total-more (2 * k) size) in
+          rw (pair-is k l)
+          (le-trans
+          (omega (
+            arith,
+            abs-triangle (term (2 * k)) (term (2 * k + 1)),
+            abs-*-≤ (t (2 * k)) (x (2 * k)) (le-refl (size (2 * k))) (small (2 * k)),
+            abs-*-≤ (t (2 * k + 1)) (x (2 * k + 1)) (le-refl (size (2 * k + 1))) (small (2 * k + 1)),
+          ))
+          (mul-le-mul two (le-refl bound)))
 
 -- ---- taps in the order of time
 
@@ -103,121 +175,143 @@ module _ (h : List ℤ) (small : tapSum h ≤ 32768) (narrow : at h 0 <ℤ pos 3
   abbrev tap : ℕ → ℤ
   tap c = at h (natAbs (pos c -ℤ pos reach))
 
-  -- Σ |tap c| over any of them
-  taps-total : (m : ℕ) → m ≤ length h → total (2 * m) (λ c. natAbs (tap c)) ≤ 32768
+  pub taps-total : total (2 * length h) (λ c. natAbs (tap c)) ≤ 32768
   unfolding tapSum
-  taps-total m l =
+  taps-total =
       let f : ℕ → ℕ = λ c. natAbs (tap c) in
       let all : total (2 * reach + 1) f ≡ tapSum h = total-around reach (λ d. natAbs (at h d)) in
       let last : f (2 * reach + 1) ≡ 0 =
       ap natAbs (at-outside h (natAbs (pos (2 * reach + 1) -ℤ pos reach)) (simp linear (omega (arith, one-more)))) in
-      let count : 2 * m ≤ 2 * reach + 1 + 1 = omega (arith, one-more) in
-      omega (arith, total-mono (2 * m) (2 * reach + 1 + 1) f count, total-more (2 * reach + 1) f, all, last, small)
+      let count : 2 * length h ≤ 2 * reach + 1 + 1 = omega (arith, one-more) in
+      omega (arith, total-mono (2 * length h) (2 * reach + 1 + 1) f count, total-more (2 * reach + 1) f, all, last, small)
 
-  module _ (rows : List ℤ) (are : Rows h rows) where
-    module _ (xs : List ℤ) (j : ℕ) (m : j < 16) where
-      abbrev term : ℕ → ℤ
-      term c = tap c *ℤ at xs (2 * j + c)
+  pub rows-hold : (rows : List ℤ) → Rows h rows → (k j : ℕ) → k < length h → j < 16 → (at rows (32 * k + 2 * j) ≡ tap (2 * k)) × (at rows (32 * k + 2 * j + 1) ≡ tap (2 * k + 1))
+  rows-hold rows are k j l m = (are k j l m .0 ∙ same-tap (natAbs (pos (2 * k) -ℤ pos reach)), are k j l m .1 ∙ same-tap (natAbs (pos (2 * k + 1) -ℤ pos reach)))
 
-      pair-is : (k : ℕ) → k < length h → pairProduct rows xs k j ≡ term (2 * k) +ℤ term (2 * k + 1)
-      pair-is k l =
-          let first : at rows (32 * k + 2 * j) ≡ tap (2 * k) = are k j l m .0 ∙ same-tap (natAbs (pos (2 * k) -ℤ pos reach)) in
-          let second : at rows (32 * k + 2 * j + 1) ≡ tap (2 * k + 1) = are k j l m .1 ∙ same-tap (natAbs (pos (2 * k + 1) -ℤ pos reach)) in
-          let x : at xs (2 * k + 2 * j) ≡ at xs (2 * j + 2 * k) = ap (at xs) (omega arith) in
-          let y : at xs (2 * k + 2 * j + 1) ≡ at xs (2 * j + (2 * k + 1)) = ap (at xs) (omega arith) in
-          ap₂ _+ℤ_ (ap₂ _*ℤ_ first x) (ap₂ _*ℤ_ second y)
+  -- the sum around word n + i of the level above
+  module _ (level : List ℤ) (n i : ℕ) (inside : length h ≤ 2 * n + 1) where
+    abbrev first : ℕ
+    first = 2 * n + 1 - length h
 
-      -- the sum of pairs is the sum over the taps
-      pub line-sum : (n : ℕ) → n ≤ length h → pairSum rows xs n j ≡ sum (2 * n) term
-      unfolding sum
-      line-sum zero l = refl
-      line-sum (suc n) l =
-          let e : 2 * suc n ≡ 2 * n + 1 + 1 = omega arith in
-          ap₂ _+ℤ_ (line-sum n (omega arith)) (pair-is n (omega arith))
-          ∙ regroup (sum (2 * n) term) (term (2 * n)) (term (2 * n + 1))
-          ∙ ap (λ z. z +ℤ term (2 * n + 1)) (sym (sum-more (2 * n) term))
-          ∙ sym (sum-more (2 * n + 1) term)
-          ∙ ap (λ z. sum z term) (sym e)
-        where
-          regroup : (x y z : ℤ) → x +ℤ (y +ℤ z) ≡ x +ℤ y +ℤ z
-          regroup x y z = simp linear (omega arith)
+    abbrev both : ℕ → ℤ
+    both c = tap c *ℤ at level (first + (2 * i + c))
 
-      module _ (b : ℕ) (bound : (c : ℕ) → c < 2 * length h → natAbs (at xs (2 * j + c)) ≤ b) where
-        pub sum-small : (n : ℕ) → n ≤ length h → natAbs (pairSum rows xs n j) ≤ 32768 * b
-        sum-small n l =
-            rw (line-sum n l)
-            (le-trans (sum-abs-* (2 * n) tap (λ c. at xs (2 * j + c)) b (λ c k. bound c (omega arith))) (mul-le-mul (taps-total n l) (le-refl b)))
+    abbrev around-it : ℤ → ℤ
+    around-it z = at h (natAbs z) *ℤ wordAt level (pos (2 * (n + i)) +ℤ z)
 
-        pub product-small : (k : ℕ) → k < length h → natAbs (pairProduct rows xs k j) ≤ 32768 * b
-        product-small k l =
-            let f : ℕ → ℕ = λ c. natAbs (tap c) in
-            let e : 2 * suc k ≡ 2 * k + 1 + 1 = omega arith in
-            let two : f (2 * k) + f (2 * k + 1) ≤ 32768 =
-            omega (arith, taps-total (suc k) l, ap (λ z. total z f) e, total-more (2 * k + 1) f, total-more (2 * k) f) in
-            rw (pair-is k l)
-            (le-trans
-            (omega (
-              arith,
-              abs-triangle (term (2 * k)) (term (2 * k + 1)),
-              abs-*-≤ (tap (2 * k)) (at xs (2 * j + 2 * k)) (le-refl (f (2 * k))) (bound (2 * k) (omega arith)),
-              abs-*-≤ (tap (2 * k + 1)) (at xs (2 * j + (2 * k + 1))) (le-refl (f (2 * k + 1))) (bound (2 * k + 1) (omega arith)),
-            ))
-            (mul-le-mul two (le-refl b)))
+    in-order : (c : ℕ) → both c ≡ around-it (pos c -ℤ pos reach)
+    unfolding wordAt
+    in-order c =
+        let e : pos (first + (2 * i + c)) ≡ pos (2 * (n + i)) +ℤ (pos c -ℤ pos reach) = simp linear (omega (arith, one-more, inside)) in
+        ap (λ z. tap c *ℤ wordAt level z) e
 
-    -- ---- the words of a group
+    last-none : both (2 * reach + 1) ≡ pos 0
+    last-none =
+        let x = at level (first + (2 * i + (2 * reach + 1))) in
+        ap (λ t. t *ℤ x) (at-outside h (natAbs (pos (2 * reach + 1) -ℤ pos reach)) (simp linear (omega (arith, one-more)))) ∙ none x
+      where
+        none : (x : ℤ) → pos 0 *ℤ x ≡ pos 0
+        none x = simp linear (omega arith)
 
-    module _ (level highs lows : List ℤ) (n : ℕ) (inside : length h ≤ 2 * n + 1) where
-      abbrev first : ℕ
-      first = 2 * n + 1 - length h
+    pub sum-is : sum (2 * length h) both ≡ levelSum h level (n + i)
+    unfolding levelSum
+    sum-is =
+        let e : 2 * length h ≡ 2 * reach + 1 + 1 = omega (arith, one-more) in
+        ap (λ z. sum z both) e
+        ∙ sum-more (2 * reach + 1) both
+        ∙ ap₂ _+ℤ_ (sum-ext (2 * reach + 1) (λ c l. in-order c) ∙ sum-around reach around-it) last-none
+        ∙ same (sumAround reach around-it)
+      where
+        same : (x : ℤ) → x +ℤ pos 0 ≡ x
+        same x = simp linear (omega arith)
 
-      module _ (upper : (i : ℕ) → i < 2 * length h + 30 → at highs i ≡ upperPart (at level (first + i))) (lower : (i : ℕ) → i < 2 * length h + 30 → at lows i ≡ lowerPart (at level (first + i))) where
-        module _ (j : ℕ) (m : j < 16) where
-          abbrev both : ℕ → ℤ
-          both c = tap c *ℤ at level (first + (2 * j + c))
+-- ---- words of a block
 
-          both-is : (c : ℕ) → c < 2 * length h → pos 65536 *ℤ term highs j m c +ℤ term lows j m c ≡ both c
-          both-is c l =
-              let x = at level (first + (2 * j + c)) in
-              ap₂ (λ u v. pos 65536 *ℤ (tap c *ℤ u) +ℤ tap c *ℤ v) (upper (2 * j + c) (omega arith)) (lower (2 * j + c) (omega arith)) ∙ whole (tap c) (upperPart x) x
+-- pairs in a row
+in-row : (s k : ℕ) → placeOf (0 + s) (2 + s) k ≡ s + 2 * k
+unfolding placeOf
+in-row s zero = omega arith
+in-row s (suc k) = omega arith
 
-          abbrev around-it : ℤ → ℤ
-          around-it z = at h (natAbs z) *ℤ wordAt level (pos (2 * (n + j)) +ℤ z)
+-- the words as the code lends them, from the first that it reads on
+module _ (store : List ℤ) (start words n count : ℕ) (inside : count ≤ 2 * n + 1) where
+  abbrev from : ℕ
+  from = start + 2 * n + 1 - count
 
-          in-order : (c : ℕ) → both c ≡ around-it (pos c -ℤ pos reach)
-          unfolding wordAt
-          in-order c =
-              let e : pos (first + (2 * j + c)) ≡ pos (2 * (n + j)) +ℤ (pos c -ℤ pos reach) = simp linear (omega (arith, one-more, inside)) in
-              ap (λ z. tap c *ℤ wordAt level z) e
+  abbrev behind : ℕ
+  behind = start + words - from
 
-          last-none : both (2 * reach + 1) ≡ pos 0
-          last-none =
-              let x = at level (first + (2 * j + (2 * reach + 1))) in
-              ap (λ t. t *ℤ x) (at-outside h (natAbs (pos (2 * reach + 1) -ℤ pos reach)) (simp linear (omega (arith, one-more)))) ∙ none x
-            where
-              none : (x : ℤ) → pos 0 *ℤ x ≡ pos 0
-              none x = simp linear (omega arith)
+  pub lent-at : (i : ℕ) → i < behind → at (part store from behind) i ≡ at (part store start words) (2 * n + 1 - count + i)
+  lent-at i l =
+      let e : from + i ≡ start + (2 * n + 1 - count + i) = omega arith in
+      at-part store from behind i l ∙ ap (at store) e ∙ sym (at-part store start words (2 * n + 1 - count + i) (omega arith))
 
-          sum-is : pos 65536 *ℤ pairSum rows highs (length h) j +ℤ pairSum rows lows (length h) j ≡ levelSum h level (n + j)
-          unfolding levelSum
-          sum-is =
-              let count : ℕ = 2 * length h in
-              let e : count ≡ 2 * reach + 1 + 1 = omega (arith, one-more) in
-              ap₂ (λ x y. pos 65536 *ℤ x +ℤ y) (line-sum highs j m (length h) (le-refl (length h))) (line-sum lows j m (length h) (le-refl (length h)))
-              ∙ ap (λ z. z +ℤ sum count (term lows j m)) (sym (sum-* count (pos 65536) (term highs j m)))
-              ∙ sym (sum-+ count (λ c. pos 65536 *ℤ term highs j m c) (term lows j m))
-              ∙ sum-ext count both-is
-              ∙ ap (λ z. sum z both) e
-              ∙ sum-more (2 * reach + 1) both
-              ∙ ap₂ _+ℤ_ (sum-ext (2 * reach + 1) (λ c l. in-order c) ∙ sum-around reach around-it) last-none
-              ∙ same (sumAround reach around-it)
-            where
-              same : (x : ℤ) → x +ℤ pos 0 ≡ x
-              same x = simp linear (omega arith)
+module _ (h : List ℤ) (small : tapSum h ≤ 32768) (narrow : at h 0 <ℤ pos 32768) (some : 1 ≤ length h) (rows : List ℤ) (are : Rows h rows) (level : List ℤ) (n : ℕ) (inside : length h ≤ 2 * n + 1) where
+  abbrev begin : ℕ
+  begin = 2 * n + 1 - length h
 
-        pub group-words : n + 16 ≤ halfLength (length level)
-            → tabulate 16 (λ j. near (pos 65536 *ℤ pairSum rows highs (length h) j +ℤ pairSum rows lows (length h) j) 16384) ≡ part (nextLevel h level) n 16
-        unfolding levelWord
-        group-words l =
-            tabulate-part (nextLevel h level) n 16 (λ j. near (pos 65536 *ℤ pairSum rows highs (length h) j +ℤ pairSum rows lows (length h) j) 16384)
-            (omega (arith, length-next h level))
-            (λ j m. ap (λ z. near z 16384) (sum-is j m) ∙ sym (at-next h level (n + j) (omega arith)))
+  abbrev turn : ℕ → ℤ
+  turn = tap h small narrow some
+
+  -- sum j of line p, of a list that has f of each word
+  module _ (xs : List ℤ) (f : ℤ → ℤ) (staged : (i : ℕ) → i < 2 * length h + 126 → at xs i ≡ f (at level (begin + i))) (p j : ℕ) (lp : p < 4) (lj : j < 16) where
+    abbrev word : ℕ → ℤ
+    word c = at level (begin + (2 * (16 * p + j) + c))
+
+    stand : (k : ℕ) → k < length h
+        → (at xs (placeOf (0 + shift 64 p) (2 + shift 64 p) k + 2 * j) ≡ f (word (2 * k))) × (at xs (placeOf (0 + shift 64 p) (2 + shift 64 p) k + 2 * j + 1) ≡ f (word (2 * k + 1)))
+    stand k l =
+        let e = in-row (shift 64 p) k in
+        let e₀ : placeOf (0 + shift 64 p) (2 + shift 64 p) k + 2 * j ≡ 2 * (16 * p + j) + 2 * k = omega (arith, e) in
+        let e₁ : placeOf (0 + shift 64 p) (2 + shift 64 p) k + 2 * j + 1 ≡ 2 * (16 * p + j) + (2 * k + 1) = omega (arith, e) in
+        (ap (at xs) e₀ ∙ staged (2 * (16 * p + j) + 2 * k) (omega arith), ap (at xs) e₁ ∙ staged (2 * (16 * p + j) + (2 * k + 1)) (omega arith))
+
+    lane-sum : pairSum rows xs (0 + shift 64 p) (2 + shift 64 p) (length h) j ≡ sum (2 * length h) (λ c. turn c *ℤ f (word c))
+    lane-sum =
+        line-sum rows (length h) turn (taps-total h small narrow some) (rows-hold h small narrow some rows are) xs (0 + shift 64 p) (2 + shift 64 p) j (λ c. f (word c)) lj stand (length h)
+        (le-refl (length h))
+
+    module _ (bound : ℕ) (low : (k : ℕ) → natAbs (f (at level k)) ≤ bound) where
+      pub lane-small : (m : ℕ) → m ≤ length h → natAbs (pairSum rows xs (0 + shift 64 p) (2 + shift 64 p) m j) ≤ 32768 * bound
+      lane-small =
+          sum-small rows (length h) turn (taps-total h small narrow some) (rows-hold h small narrow some rows are) xs (0 + shift 64 p) (2 + shift 64 p) j (λ c. f (word c)) lj stand bound
+          (λ c. low (begin + (2 * (16 * p + j) + c)))
+
+      pub lane-product-small : (k : ℕ) → k < length h → natAbs (pairProduct rows xs (placeOf (0 + shift 64 p) (2 + shift 64 p) k) k j) ≤ 32768 * bound
+      lane-product-small =
+          product-small rows (length h) turn (taps-total h small narrow some) (rows-hold h small narrow some rows are) xs (0 + shift 64 p) (2 + shift 64 p) j (λ c. f (word c)) lj stand bound
+          (λ c. low (begin + (2 * (16 * p + j) + c)))
+
+  -- such sums of both parts, and of samples, are the sum around a word
+  module _ (p j : ℕ) (lp : p < 4) (lj : j < 16) where
+    abbrev lane : List ℤ → ℤ
+    lane xs = pairSum rows xs (0 + shift 64 p) (2 + shift 64 p) (length h) j
+
+    abbrev words : ℕ → ℤ
+    words c = at level (begin + (2 * (16 * p + j) + c))
+
+    pub part-lanes : (highs lows : List ℤ) → ((i : ℕ) → i < 2 * length h + 126 → at highs i ≡ upperPart (at level (begin + i)))
+        → ((i : ℕ) → i < 2 * length h + 126 → at lows i ≡ lowerPart (at level (begin + i)))
+        → pos 65536 *ℤ lane highs +ℤ lane lows ≡ levelSum h level (n + (16 * p + j))
+    part-lanes highs lows upper lower =
+        ap₂ (λ x y. pos 65536 *ℤ x +ℤ y) (lane-sum highs upperPart upper p j lp lj) (lane-sum lows lowerPart lower p j lp lj)
+        ∙ by-parts (2 * length h) turn words
+        ∙ sum-is h small narrow some level n (16 * p + j) inside
+
+    pub sample-lanes : (xs : List ℤ) → Samples level → ((i : ℕ) → i < 2 * length h + 126 → at xs i ≡ samplePart (at level (begin + i)))
+        → pos 256 *ℤ lane xs ≡ levelSum h level (n + (16 * p + j))
+    sample-lanes xs samples staged =
+        ap (λ x. pos 256 *ℤ x) (lane-sum xs samplePart staged p j lp lj)
+        ∙ by-samples (2 * length h) turn words (λ c l. samples (begin + (2 * (16 * p + j) + c)))
+        ∙ sum-is h small narrow some level n (16 * p + j) inside
+
+-- sixty-four words, by line
+pub block-words : (h level xs : List ℤ) (n : ℕ) → n + 64 ≤ halfLength (length level)
+    → ((p j : ℕ) → p < 4 → j < 16 → at xs (16 * p + j) ≡ near (levelSum h level (n + (16 * p + j))) 16384)
+    → tabulate 64 (at xs) ≡ part (nextLevel h level) n 64
+unfolding levelWord
+block-words h level xs n l are =
+    tabulate-part (nextLevel h level) n 64 (at xs) (omega (arith, length-next h level))
+    (λ t m.
+    let e : 16 * (t / 16) + t % 16 ≡ t = omega arith in
+    ap (at xs) (sym e) ∙ are (t / 16) (t % 16) (omega arith) (omega arith) ∙ ap (λ i. near (levelSum h level (n + i)) 16384) e ∙ sym (at-next h level (n + t) (omega arith)))

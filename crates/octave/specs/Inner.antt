@@ -1,7 +1,7 @@
 -- Definitions that only inner functions' contracts cite: no rule of document 01, but a step of the code that computes one.
 use mathlib.Core.List.{List}
 use mathlib.Core.Path.{_≡_}
-use Prim.Native.Nat.{ℕ, _+_, _*_, _<_, pred}
+use Prim.Native.Nat.{ℕ, zero, suc, _+_, _*_, _/_, _%_, _<_, pred}
 use lib.IntN.{ℤ, pos, negsuc, natAbs, _+ℤ_, _-ℤ_, _*ℤ_}
 use lib.ListN.{length}
 use Rattle.arith.specs.Floor.{floorDiv}
@@ -24,10 +24,27 @@ upperPart x = floorDiv (x +ℤ pos 32768) 65536
 abbrev pub lowerPart : ℤ → ℤ
 lowerPart x = x -ℤ upperPart x *ℤ pos 65536
 
--- what pair k adds to sum j, which begins at word 2j
-abbrev pub pairProduct : List ℤ → List ℤ → ℕ → ℕ → ℤ
-pairProduct rows words k j = at rows (32 * k + 2 * j) *ℤ at words (2 * k + 2 * j) +ℤ at rows (32 * k + 2 * j + 1) *ℤ at words (2 * k + 2 * j + 1)
+-- a word that is a sample × 256 in one part
+abbrev pub samplePart : ℤ → ℤ
+samplePart x = limit (negsuc 32767) (pos 32767) (floorDiv x 256)
+
+-- all words are such
+abbrev pub Samples : List ℤ → Type 0
+Samples level = (k : ℕ) → at level k ≡ pos 256 *ℤ samplePart (at level k)
+
+-- what pair k, whose words begin at p, adds to sum j, which lies 2j words on
+abbrev pub pairProduct : List ℤ → List ℤ → ℕ → ℕ → ℕ → ℤ
+pairProduct rows words p k j = at rows (32 * k + 2 * j) *ℤ at words (p + 2 * j) +ℤ at rows (32 * k + 2 * j + 1) *ℤ at words (p + 2 * j + 1)
+
+-- where the words of pair k begin
+unfoldable pub placeOf : ℕ → ℕ → ℕ → ℕ
+placeOf a b zero = a
+placeOf a b (suc k) = b + 2 * k
 
 -- sum j over the pairs below m
-abbrev pub pairSum : List ℤ → List ℤ → ℕ → ℕ → ℤ
-pairSum rows words m j = sum m (λ k. pairProduct rows words k j)
+abbrev pub pairSum : List ℤ → List ℤ → ℕ → ℕ → ℕ → ℕ → ℤ
+pairSum rows words a b m j = sum m (λ k. pairProduct rows words (placeOf a b k) k j)
+
+-- how far on the words of sixteen sums begin
+abbrev pub shift : ℕ → ℕ → ℕ
+shift far p = p / 2 * far + p % 2 * 32

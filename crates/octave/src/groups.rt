@@ -1,6 +1,7 @@
-// Sixteen words of the level above at a time, in 16-bit numbers: words in two parts, and taps in pairs. Four such words are centred on every second
-// of eight words in a row, so that the processor takes their products with a pair of taps, and adds them two by two, in one step.
+// Sixty-four words of the level above at a time, in 16-bit numbers: words in one part or two, and taps in pairs. Four such words are centred on every
+// second of eight words in a row, so that the processor takes their products with a pair of taps, and adds them two by two, in one step.
 
+ghost use mathlib.Core.Bool.{true};
 ghost use mathlib.Core.Path.{_≡_};
 ghost use Prim.Native.Nat.{ℕ, _+_, _*_, _^_, _≤_, _<_};
 ghost use lib.IntN.{pos, natAbs, _+ℤ_, _*ℤ_};
@@ -10,7 +11,8 @@ ghost use Rattle.arith.specs.Floor.{near};
 ghost use Rattle.arith.specs.Lists.{at, part, tabulate, overwrite};
 ghost use Rattle.book.specs.Check.{tapSum};
 ghost use Rattle.octave.specs.Octave.{nextLevel};
-ghost use Rattle.octave.specs.Inner.{timeTap, Rows, upperPart, lowerPart, pairProduct, pairSum};
+ghost use Rattle.octave.specs.Inner.{timeTap, Rows, upperPart, lowerPart, samplePart, Samples, pairProduct, pairSum, placeOf, shift};
+use arith::narrow;
 
 // Tap c in the order of time, 0 behind the last.
 fn time_tap(taps: &[i32], c: usize) -> i16
@@ -57,12 +59,12 @@ pub(crate) fn write_rows(taps: &[i32], rows: &mut [i16; 1312])
 }
 
 // Both parts of the first `count` words.
-fn write_parts(level: &[i32], count: usize, high: &mut [i16; 112], low: &mut [i16; 112])
-    requires { ⌜ (count ≤ length (now level)) × (count ≤ 112) × (length (now high) ≡ 112) × (length (now low) ≡ 112) ⌝ }
+fn write_parts(level: &[i32], count: usize, high: &mut [i16; 208], low: &mut [i16; 208])
+    requires { ⌜ (count ≤ length (now level)) × (count ≤ 208) × (length (now high) ≡ 208) × (length (now low) ≡ 208) ⌝ }
     requires { ⌜ ((i : ℕ) → natAbs (at (now level) i) ≤ 2 ^ 26) ⌝ }
     ensures { λ _. ⌜ ((i : ℕ) → i < count → at (now (high .exit)) i ≡ upperPart (at (now (level .entry)) i)) ⌝ }
     ensures { λ _. ⌜ ((i : ℕ) → i < count → at (now (low .exit)) i ≡ lowerPart (at (now (level .entry)) i)) ⌝ }
-    ensures { λ _. ⌜ (length (now (high .exit)) ≡ 112) × (length (now (low .exit)) ≡ 112) ⌝ }
+    ensures { λ _. ⌜ (length (now (high .exit)) ≡ 208) × (length (now (low .exit)) ≡ 208) ⌝ }
 {
     let mut i = 0;
     while i < count {
@@ -74,61 +76,117 @@ fn write_parts(level: &[i32], count: usize, high: &mut [i16; 112], low: &mut [i1
     }
 }
 
+// The first `count` words in one part, for words that are samples × 256.
+fn write_samples(level: &[i32], count: usize, high: &mut [i16; 208])
+    requires { ⌜ (count ≤ length (now level)) × (count ≤ 208) × (length (now high) ≡ 208) ⌝ }
+    ensures { λ _. ⌜ ((i : ℕ) → i < count → at (now (high .exit)) i ≡ samplePart (at (now (level .entry)) i)) ⌝ }
+    ensures { λ _. ⌜ length (now (high .exit)) ≡ 208 ⌝ }
+{
+    let mut i = 0;
+    while i < count {
+        high[i] = narrow(level[i] >> 8);
+        i += 1;
+    }
+}
+
 // The sum of two products.
-fn pair_product(words: &[i16; 112], rows: &[i16; 1312], i: usize, r: usize) -> i32
-    requires { ⌜ (i + 1 < 112) × (r + 1 < 1312) ⌝ }
+fn pair_product(words: &[i16; 208], rows: &[i16; 1312], i: usize, r: usize) -> i32
+    requires { ⌜ (i + 1 < 208) × (r + 1 < 1312) ⌝ }
     requires { ⌜ natAbs (at (now rows) r *ℤ at (now words) i +ℤ at (now rows) (r + 1) *ℤ at (now words) (i + 1)) ≤ 2 ^ 30 ⌝ }
     ensures { λ x. ⌜ x ≡ at (now (rows .entry)) r *ℤ at (now (words .entry)) i +ℤ at (now (rows .entry)) (r + 1) *ℤ at (now (words .entry)) (i + 1) ⌝ }
 {
     rows[r] as i32 * words[i] as i32 + rows[r + 1] as i32 * words[i + 1] as i32
 }
 
-// Adds the products of the pair before to the sums, and makes those of pair k. Added a turn later, they stay by themselves: were they added at
-// once, the compiler would add each product of a pair by itself.
-fn add_pair(words: &[i16; 112], rows: &[i16; 1312], k: usize, sums: &mut [i32], last: &mut [i32])
-    requires { ⌜ (k < 41) × (length (now sums) ≡ 16) × (length (now last) ≡ 16) ⌝ }
-    requires { ⌜ ((j : ℕ) → j < 16 → (natAbs (pairSum (now rows) (now words) k j) ≤ 2 ^ 30) × (natAbs (pairProduct (now rows) (now words) k j) ≤ 2 ^ 30)) ⌝ }
-    requires { ⌜ ((j : ℕ) → j < 16 → at (now sums) j +ℤ at (now last) j ≡ pairSum (now rows) (now words) k j) ⌝ }
-    ensures { λ _. ⌜ ((j : ℕ) → j < 16 → at (now (sums .exit)) j +ℤ at (now (last .exit)) j ≡ pairSum (now (rows .entry)) (now (words .entry)) (k + 1) j) ⌝ }
+// Adds the products of the pair before to the sums, and makes those of pair k with the words from `place` on. Added a turn later, they stay by
+// themselves: were they added at once, the compiler would add each product of a pair by itself.
+fn add_pair(
+    words: &[i16; 208],
+    rows: &[i16; 1312],
+    place: usize,
+    k: usize,
+    sums: &mut [i32],
+    last: &mut [i32],
+)
+    requires { ⌜ (place + 32 ≤ 208) × (k < 41) × (length (now sums) ≡ 16) × (length (now last) ≡ 16) ⌝ }
+    requires { ⌜ ((j : ℕ) → j < 16 → (natAbs (at (now sums) j +ℤ at (now last) j) ≤ 2 ^ 30) × (natAbs (pairProduct (now rows) (now words) place k j) ≤ 2 ^ 30)) ⌝ }
+    ensures { λ _. ⌜ ((j : ℕ) → j < 16 → at (now (sums .exit)) j +ℤ at (now (last .exit)) j ≡ at (now (sums .entry)) j +ℤ at (now (last .entry)) j +ℤ pairProduct (now (rows .entry)) (now (words .entry)) place k j) ⌝ }
     ensures { λ _. ⌜ (length (now (sums .exit)) ≡ 16) × (length (now (last .exit)) ≡ 16) ⌝ }
 {
     let mut j = 0;
     while j < sums.len() {
         sums[j] = sums[j] + last[j];
-        last[j] = pair_product(words, rows, 2 * k + 2 * j, 32 * k + 2 * j);
+        last[j] = pair_product(words, rows, place + 2 * j, 32 * k + 2 * j);
         j += 1;
     }
 }
 
-// Adds the products of the last pair to the sums.
-fn add_last(sums: &mut [i32], last: &[i32])
-    requires { ⌜ (length (now sums) ≡ 16) × (length (now last) ≡ 16) ⌝ }
+// Writes sums and products of the last pair together, from place `to` on.
+fn add_last(sums: &[i32], last: &[i32], out: &mut [i32; 64], to: usize)
+    requires { ⌜ (length (now sums) ≡ 16) × (length (now last) ≡ 16) × (to + 16 ≤ 64) × (length (now out) ≡ 64) ⌝ }
     requires { ⌜ ((j : ℕ) → j < 16 → natAbs (at (now sums) j +ℤ at (now last) j) ≤ 2 ^ 30) ⌝ }
-    ensures { λ _. ⌜ ((j : ℕ) → j < 16 → at (now (sums .exit)) j ≡ at (now (sums .entry)) j +ℤ at (now (last .entry)) j) ⌝ }
-    ensures { λ _. ⌜ length (now (sums .exit)) ≡ 16 ⌝ }
+    ensures { λ _. ⌜ ((j : ℕ) → j < 16 → at (now (out .exit)) (to + j) ≡ at (now (sums .entry)) j +ℤ at (now (last .entry)) j) ⌝ }
+    ensures { λ _. ⌜ ((i : ℕ) → i < to → at (now (out .exit)) i ≡ at (now (out .entry)) i) ⌝ }
+    ensures { λ _. ⌜ length (now (out .exit)) ≡ 64 ⌝ }
 {
     let mut j = 0;
     while j < sums.len() {
-        sums[j] = sums[j] + last[j];
+        out[to + j] = sums[j] + last[j];
         j += 1;
     }
 }
 
-// The sums over all pairs.
-fn pair_sums(words: &[i16; 112], rows: &[i16; 1312], pairs: usize, sums: &mut [i32])
-    requires { ⌜ (pairs ≤ 41) × (length (now sums) ≡ 16) ⌝ }
-    requires { ⌜ ((k j : ℕ) → k ≤ pairs → j < 16 → natAbs (pairSum (now rows) (now words) k j) ≤ 2 ^ 30) ⌝ }
-    requires { ⌜ ((k j : ℕ) → k < pairs → j < 16 → natAbs (pairProduct (now rows) (now words) k j) ≤ 2 ^ 30) ⌝ }
-    requires { ⌜ ((j : ℕ) → at (now sums) j ≡ pos 0) ⌝ }
-    ensures { λ _. ⌜ ((j : ℕ) → j < 16 → at (now (sums .exit)) j ≡ pairSum (now (rows .entry)) (now (words .entry)) pairs j) ⌝ }
+// Sixteen sums over all pairs: the words of the first begin at a, those of the next at b, and each further pair's two words on.
+fn pair_sums(
+    words: &[i16; 208],
+    rows: &[i16; 1312],
+    pairs: usize,
+    a: usize,
+    b: usize,
+    out: &mut [i32; 64],
+    to: usize,
+)
+    requires { ⌜ (pairs ≤ 41) × (a + 32 ≤ 208) × (b + 2 * pairs + 28 ≤ 208) × (to + 16 ≤ 64) × (length (now out) ≡ 64) ⌝ }
+    requires { ⌜ ((k j : ℕ) → k ≤ pairs → j < 16 → natAbs (pairSum (now rows) (now words) a b k j) ≤ 2 ^ 30) ⌝ }
+    requires { ⌜ ((k j : ℕ) → k < pairs → j < 16 → natAbs (pairProduct (now rows) (now words) (placeOf a b k) k j) ≤ 2 ^ 30) ⌝ }
+    ensures { λ _. ⌜ ((j : ℕ) → j < 16 → at (now (out .exit)) (to + j) ≡ pairSum (now (rows .entry)) (now (words .entry)) a b pairs j) ⌝ }
+    ensures { λ _. ⌜ ((i : ℕ) → i < to → at (now (out .exit)) i ≡ at (now (out .entry)) i) ⌝ }
+    ensures { λ _. ⌜ length (now (out .exit)) ≡ 64 ⌝ }
 {
+    let mut sums = [0i32; 16];
     let mut last = [0i32; 16];
+    let mut place = a;
     let mut k = 0;
     while k < pairs {
-        add_pair(words, rows, k, sums, &mut last);
+        add_pair(words, rows, place, k, &mut sums, &mut last);
+        place = b + 2 * k;
         k += 1;
     }
-    add_last(sums, &last);
+    add_last(&sums, &last, out, to);
+}
+
+// Four times sixteen sums: the second and the fourth begin 32 words on, the last two `far` words on.
+fn all_sums(
+    words: &[i16; 208],
+    rows: &[i16; 1312],
+    pairs: usize,
+    a: usize,
+    b: usize,
+    far: usize,
+    out: &mut [i32; 64],
+)
+    requires { ⌜ (pairs ≤ 41) × (a + far + 64 ≤ 208) × (b + far + 2 * pairs + 60 ≤ 208) × (length (now out) ≡ 64) ⌝ }
+    requires { ⌜ ((p k j : ℕ) → p < 4 → k ≤ pairs → j < 16 → natAbs (pairSum (now rows) (now words) (a + shift far p) (b + shift far p) k j) ≤ 2 ^ 30) ⌝ }
+    requires { ⌜ ((p k j : ℕ) → p < 4 → k < pairs → j < 16 → natAbs (pairProduct (now rows) (now words) (placeOf (a + shift far p) (b + shift far p) k) k j) ≤ 2 ^ 30) ⌝ }
+    ensures { λ _. ⌜ ((p j : ℕ) → p < 4 → j < 16 → at (now (out .exit)) (16 * p + j) ≡ pairSum (now (rows .entry)) (now (words .entry)) (a + shift far p) (b + shift far p) pairs j) ⌝ }
+    ensures { λ _. ⌜ length (now (out .exit)) ≡ 64 ⌝ }
+{
+    let mut p = 0;
+    while p < 4 {
+        let on = p / 2 * far + p % 2 * 32;
+        pair_sums(words, rows, pairs, a + on, b + on, out, 16 * p);
+        p += 1;
+    }
 }
 
 // The word of a sum in two parts.
@@ -142,44 +200,138 @@ fn rounded(upper: i32, lower: i32) -> i32
     (high + ((lower + 8191 + odd) >> 13)) >> 1
 }
 
-// Writes the words of the sums from place `place` on.
-fn write_words(upper: &[i32; 16], lower: &[i32; 16], store: &mut [i32], place: usize)
-    requires { ⌜ place + 16 ≤ length (now store) ⌝ }
-    requires { ⌜ ((j : ℕ) → j < 16 → (natAbs (at (now upper) j) ≤ 2 ^ 26) × (natAbs (at (now lower) j) ≤ 2 ^ 30)) ⌝ }
-    ensures { λ _. ⌜ now (store .exit) ≡ overwrite (now (store .entry)) place (tabulate 16 (λ j. near (pos 65536 *ℤ at (now (upper .entry)) j +ℤ at (now (lower .entry)) j) 16384)) ⌝ }
+// The word of a sum of samples.
+fn rounded_sample(sum: i32) -> i32
+    requires { ⌜ natAbs sum ≤ 2 ^ 30 ⌝ }
+    ensures { λ r. ⌜ r ≡ near (pos 256 *ℤ sum) 16384 ⌝ }
+{
+    let q = (sum >> 5) >> 1;
+    let odd = q - 2 * (q >> 1);
+    ((sum + 31 + odd) >> 5) >> 1
+}
+
+// Words from sums in two parts, in place of the upper ones.
+fn round_parts(upper: &mut [i32; 64], lower: &[i32; 64])
+    requires { ⌜ ((t : ℕ) → t < 64 → (natAbs (at (now upper) t) ≤ 2 ^ 26) × (natAbs (at (now lower) t) ≤ 2 ^ 30)) ⌝ }
+    requires { ⌜ length (now upper) ≡ 64 ⌝ }
+    ensures { λ _. ⌜ ((t : ℕ) → t < 64 → at (now (upper .exit)) t ≡ near (pos 65536 *ℤ at (now (upper .entry)) t +ℤ at (now (lower .entry)) t) 16384) ⌝ }
+    ensures { λ _. ⌜ length (now (upper .exit)) ≡ 64 ⌝ }
+{
+    let mut t = 0;
+    while t < 64 {
+        upper[t] = rounded(upper[t], lower[t]);
+        t += 1;
+    }
+}
+
+// Words from sums of samples, in place of the sums.
+fn round_samples(sums: &mut [i32; 64])
+    requires { ⌜ ((t : ℕ) → t < 64 → natAbs (at (now sums) t) ≤ 2 ^ 30) × (length (now sums) ≡ 64) ⌝ }
+    ensures { λ _. ⌜ ((t : ℕ) → t < 64 → at (now (sums .exit)) t ≡ near (pos 256 *ℤ at (now (sums .entry)) t) 16384) ⌝ }
+    ensures { λ _. ⌜ length (now (sums .exit)) ≡ 64 ⌝ }
+{
+    let mut t = 0;
+    while t < 64 {
+        sums[t] = rounded_sample(sums[t]);
+        t += 1;
+    }
+}
+
+// Writes the words from place `place` on.
+fn write_words(words: &[i32; 64], store: &mut [i32], place: usize)
+    requires { ⌜ place + 64 ≤ length (now store) ⌝ }
+    ensures { λ _. ⌜ now (store .exit) ≡ overwrite (now (store .entry)) place (tabulate 64 (at (now (words .entry)))) ⌝ }
 {
     let mut j = 0;
-    while j < 16 {
-        store[place + j] = rounded(upper[j], lower[j]);
+    while j < 64 {
+        store[place + j] = words[j];
         j += 1;
     }
 }
 
-// Writes words n to n + 15 of the level above the `words` words from place `start` on, where all of it lies inside the level. Sixteen: their sums, and
-// the products of a pair, fill half of the registers. The caller lends the places of the parts, which are not cleared each time.
-pub(crate) fn write_group(
+// Writes words n to n + 63 of the level above the `words` words from place `start` on, where all of it lies inside the level. The caller lends the
+// places of parts and sums, which are not cleared each time.
+fn part_block(
     taps: &[i32],
     rows: &[i16; 1312],
-    high: &mut [i16; 112],
-    low: &mut [i16; 112],
+    high: &mut [i16; 208],
+    low: &mut [i16; 208],
+    upper: &mut [i32; 64],
+    lower: &mut [i32; 64],
     store: &mut [i32],
     start: usize,
     words: usize,
     n: usize,
 )
     requires { ⌜ (1 ≤ length (now taps)) × (length (now taps) ≤ 41) × (tapSum (now taps) ≤ 32768) × (at (now taps) 0 <ℤ pos 32768) × Rows (now taps) (now rows) ⌝ }
-    requires { ⌜ (length (now taps) ≤ 2 * n + 1) × (2 * n + length (now taps) + 31 ≤ words) × (start + words + n + 16 ≤ length (now store)) × (length (now high) ≡ 112) × (length (now low) ≡ 112) ⌝ }
+    requires { ⌜ (length (now taps) ≤ 2 * n + 1) × (2 * n + length (now taps) + 134 ≤ words) × (start + words + n + 64 ≤ length (now store)) ⌝ }
+    requires { ⌜ (length (now high) ≡ 208) × (length (now low) ≡ 208) × (length (now upper) ≡ 64) × (length (now lower) ≡ 64) ⌝ }
     requires { ⌜ ((k : ℕ) → natAbs (at (part (now store) start words) k) ≤ 2 ^ 26) ⌝ }
-    ensures { λ _. ⌜ now (store .exit) ≡ overwrite (now (store .entry)) (start + words + n) (part (nextLevel (now (taps .entry)) (part (now (store .entry)) start words)) n 16) ⌝ }
-    ensures { λ _. ⌜ (length (now (high .exit)) ≡ 112) × (length (now (low .exit)) ≡ 112) ⌝ }
+    ensures { λ _. ⌜ now (store .exit) ≡ overwrite (now (store .entry)) (start + words + n) (part (nextLevel (now (taps .entry)) (part (now (store .entry)) start words)) n 64) ⌝ }
+    ensures { λ _. ⌜ (length (now (high .exit)) ≡ 208) × (length (now (low .exit)) ≡ 208) × (length (now (upper .exit)) ≡ 64) × (length (now (lower .exit)) ≡ 64) ⌝ }
 {
     let pairs = taps.len();
     let next = start + words;
+    let place = next + n;
     let first = start + 2 * n + 1 - pairs;
-    write_parts(&store[first..next], 2 * pairs + 30, high, low);
-    let mut upper = [0i32; 16];
-    let mut lower = [0i32; 16];
-    pair_sums(high, rows, pairs, &mut upper);
-    pair_sums(low, rows, pairs, &mut lower);
-    write_words(&upper, &lower, store, next + n);
+    write_parts(&store[first..next], (2 * pairs + 133) / 8 * 8, high, low);
+    all_sums(high, rows, pairs, 0, 2, 64, upper);
+    all_sums(low, rows, pairs, 0, 2, 64, lower);
+    round_parts(upper, lower);
+    write_words(upper, store, place);
+}
+
+// The same where all words of the level are samples × 256.
+fn sample_block(
+    taps: &[i32],
+    rows: &[i16; 1312],
+    high: &mut [i16; 208],
+    upper: &mut [i32; 64],
+    store: &mut [i32],
+    start: usize,
+    words: usize,
+    n: usize,
+)
+    requires { ⌜ (1 ≤ length (now taps)) × (length (now taps) ≤ 41) × (tapSum (now taps) ≤ 32768) × (at (now taps) 0 <ℤ pos 32768) × Rows (now taps) (now rows) ⌝ }
+    requires { ⌜ (length (now taps) ≤ 2 * n + 1) × (2 * n + length (now taps) + 134 ≤ words) × (start + words + n + 64 ≤ length (now store)) ⌝ }
+    requires { ⌜ (length (now high) ≡ 208) × (length (now upper) ≡ 64) × Samples (part (now store) start words) ⌝ }
+    ensures { λ _. ⌜ now (store .exit) ≡ overwrite (now (store .entry)) (start + words + n) (part (nextLevel (now (taps .entry)) (part (now (store .entry)) start words)) n 64) ⌝ }
+    ensures { λ _. ⌜ (length (now (high .exit)) ≡ 208) × (length (now (upper .exit)) ≡ 64) ⌝ }
+{
+    let pairs = taps.len();
+    let next = start + words;
+    let place = next + n;
+    let first = start + 2 * n + 1 - pairs;
+    write_samples(&store[first..next], (2 * pairs + 133) / 8 * 8, high);
+    all_sums(high, rows, pairs, 0, 2, 64, upper);
+    round_samples(upper);
+    write_words(upper, store, place);
+}
+
+// The one or the other.
+pub(crate) fn write_block(
+    taps: &[i32],
+    rows: &[i16; 1312],
+    high: &mut [i16; 208],
+    low: &mut [i16; 208],
+    upper: &mut [i32; 64],
+    lower: &mut [i32; 64],
+    store: &mut [i32],
+    start: usize,
+    words: usize,
+    n: usize,
+    samples: bool,
+)
+    requires { ⌜ (1 ≤ length (now taps)) × (length (now taps) ≤ 41) × (tapSum (now taps) ≤ 32768) × (at (now taps) 0 <ℤ pos 32768) × Rows (now taps) (now rows) ⌝ }
+    requires { ⌜ (length (now taps) ≤ 2 * n + 1) × (2 * n + length (now taps) + 134 ≤ words) × (start + words + n + 64 ≤ length (now store)) ⌝ }
+    requires { ⌜ (length (now high) ≡ 208) × (length (now low) ≡ 208) × (length (now upper) ≡ 64) × (length (now lower) ≡ 64) ⌝ }
+    requires { ⌜ ((k : ℕ) → natAbs (at (part (now store) start words) k) ≤ 2 ^ 26) × (samples ≡ true → Samples (part (now store) start words)) ⌝ }
+    ensures { λ _. ⌜ now (store .exit) ≡ overwrite (now (store .entry)) (start + words + n) (part (nextLevel (now (taps .entry)) (part (now (store .entry)) start words)) n 64) ⌝ }
+    ensures { λ _. ⌜ (length (now (high .exit)) ≡ 208) × (length (now (low .exit)) ≡ 208) × (length (now (upper .exit)) ≡ 64) × (length (now (lower .exit)) ≡ 64) ⌝ }
+{
+    if samples {
+        sample_block(taps, rows, high, upper, store, start, words, n);
+        return;
+    }
+    part_block(taps, rows, high, low, upper, lower, store, start, words, n);
 }

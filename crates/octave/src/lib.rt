@@ -8,10 +8,12 @@ ghost use Rattle.arith.specs.Lists.{at, wordAt, part, overwrite};
 ghost use Rattle.arith.specs.Sum.{sumAround};
 ghost use Rattle.book.specs.Check.{tapSum};
 ghost use Rattle.octave.specs.Octave.{halfLength, levelWord, nextLevel};
-use crate::groups::write_group;
+use crate::groups::write_block;
 use crate::groups::write_rows;
+use crate::samples::only_samples;
 
-mod groups; // sixteen words of a level at a time
+mod groups; // sixty-four words of a level at a time
+mod samples; // whether all words are samples × 256
 
 // Half of a length, rounded up.
 pub fn half_length(n: usize) -> usize
@@ -88,13 +90,28 @@ pub fn next_level(taps: &[i32], store: &mut [i32], start: usize, words: usize)
     let half = half_length(words);
     let mut rows = [0i16; 1312];
     write_rows(taps, &mut rows);
-    let mut high = [0i16; 112];
-    let mut low = [0i16; 112];
+    let samples = only_samples(&store[start..next]);
+    let mut high = [0i16; 208];
+    let mut low = [0i16; 208];
+    let mut upper = [0i32; 64];
+    let mut lower = [0i32; 64];
     let mut n = 0;
     while n < half {
-        if taps[0] < 32768 && taps.len() <= 2 * n + 1 && 2 * n + taps.len() + 31 <= words {
-            write_group(taps, &rows, &mut high, &mut low, store, start, words, n);
-            n += 16;
+        if taps[0] < 32768 && taps.len() <= 2 * n + 1 && 2 * n + taps.len() + 134 <= words {
+            write_block(
+                taps,
+                &rows,
+                &mut high,
+                &mut low,
+                &mut upper,
+                &mut lower,
+                store,
+                start,
+                words,
+                n,
+                samples,
+            );
+            n += 64;
         } else {
             let x = level_word(&store[start..next], taps, n);
             store[next + n] = x;

@@ -24,11 +24,13 @@ use Rattle.octave.proofs.next_level.Statement.{statement}
 use Rattle.octave.proofs.next_level.Tie as tie
 
 abbrev Inv-loop : tie.InvT-loop
-Inv-loop taps store₀ start words next half rows high₀ low₀ n₀ store high low n =
-    (n ≤ half) × (store ≡ paste store₀ next (nextLevel taps (part store₀ start words)) n) × (length high ≡ 112) × (length low ≡ 112)
+Inv-loop taps store₀ start words next half rows samples high₀ low₀ upper₀ lower₀ n₀ store high low upper lower n =
+    (n ≤ half)
+    × (store ≡ paste store₀ next (nextLevel taps (part store₀ start words)) n)
+    × ((length high ≡ 208) × (length low ≡ 208) × (length upper ≡ 64) × (length lower ≡ 64))
 
 abbrev μ-loop : tie.MeasureT-loop
-μ-loop taps store₀ start words next half rows high₀ low₀ n₀ store high low n = half - n
+μ-loop taps store₀ start words next half rows samples high₀ low₀ upper₀ lower₀ n₀ store high low upper lower n = half - n
 
 module _ (s : tie.Start Inv-loop μ-loop) where
   abbrev taps : List ℤ
@@ -46,19 +48,25 @@ module _ (s : tie.Start Inv-loop μ-loop) where
   length-level : length level ≡ s .args .words
   length-level = part-length (s .args .store .now) (s .args .start) (s .args .words) (omega arith)
 
+  -- as the code lends it
+  lent : take (next - s .args .start) (drop (s .args .start) (s .args .store .now)) ≡ level
+  lent =
+      let e : next - s .args .start ≡ s .args .words = omega arith in
+      ap (λ m. take m (drop (s .args .start) (s .args .store .now))) e
+
   length-above : length above ≡ halfLength (s .args .words)
   length-above = length-next taps level ∙ ap halfLength length-level
 
 -- at each turn
 module _ (a : tie.At-loop Inv-loop μ-loop) where
   abbrev s : tie.Start Inv-loop μ-loop
-  s = a .before .before .before .before
+  s = a .before .before .before .before .before .before .before
 
   abbrev n : ℕ
   n = a .loop .n
 
-  half-is : a .before .before .before .half-length .result ≡ halfLength (s .args .words)
-  half-is = a .before .before .before .half-length .ensures
+  half-is : a .before .before .before .before .before .before .half-length .result ≡ halfLength (s .args .words)
+  half-is = a .before .before .before .before .before .before .half-length .ensures
 
   inside : n ≤ length (above s)
   inside = omega (arith, half-is, length-above s)
@@ -76,31 +84,33 @@ module _ (a : tie.At-loop Inv-loop μ-loop) where
       let e : next s - s .args .start ≡ s .args .words = omega arith in
       ap (λ m. take m (drop (s .args .start) (a .loop .store))) e ∙ level-now
 
--- where a group lies inside
+-- where a block lies inside
 module _ (t : tie.Then3 Inv-loop μ-loop) where
   abbrev w : tie.At-loop Inv-loop μ-loop
   w = t .before .before .before .before .before
 
-  group-words : 2 * n w + length (taps (s w)) + 31 ≤ s w .args .words
-  group-words = leb-true _ _ (t .if3 .taken)
+  block-words : 2 * n w + length (taps (s w)) + 134 ≤ s w .args .words
+  block-words = leb-true _ _ (t .if3 .taken)
 
   centre-narrow : at (taps (s w)) 0 <ℤ pos 32768
   centre-narrow =
       let f = tap-fits (taps (s w)) (s w .pre .0 .2) 0 (s w .pre .0 .0) in
       lt-yes (simp (reads, f) at (t .before .before .if1 .taken))
 
-  group-half : n w + 16 ≤ halfLength (s w .args .words)
-  group-half = omega (arith, group-words, halfLength-holds (s w .args .words) (n w + 15) (omega (arith, group-words)))
+  block-half : n w + 64 ≤ halfLength (s w .args .words)
+  block-half = omega (arith, block-words, halfLength-holds (s w .args .words) (n w + 63) (omega (arith, block-words)))
 
 -- the words that it writes
-group-written : (c : tie.After-write-group Inv-loop μ-loop) → let a = w (c .before .before .before .before .before) in
-    c .write-group .last .1 .1 .1 .1 .0 ≡ paste (s a .args .store .now) (next (s a)) (above (s a)) (n a + 16)
-group-written c =
-    let t = c .before .before .before .before .before in
-    let a = w t in
-    _∙_ {b = overwrite (a .loop .store) (next (s a) + n a) (part (nextLevel (taps (s a)) (part (a .loop .store) (s a .args .start) (s a .args .words))) (n a) 16)} (c .write-group .ensures .0)
-    (ap₂ (λ xs l. overwrite xs (next (s a) + n a) (part (nextLevel (taps (s a)) l) (n a) 16)) (a .loop .inv .1) (level-now a)
-    ∙ paste-part (s a .args .store .now) (above (s a)) (next (s a)) (n a) 16 (omega (arith, group-half t)) (omega (arith, group-half t, length-above (s a))))
+module _ (c : tie.After-write-block Inv-loop μ-loop) where
+  abbrev t : tie.Then3 Inv-loop μ-loop
+  t = c .before .before .before .before .before .before .before
+
+  block-written : let a = w t in c .write-block .last .1 .1 .1 .1 .1 .1 .0 ≡ paste (s a .args .store .now) (next (s a)) (above (s a)) (n a + 64)
+  block-written =
+      let a = w t in
+      _∙_ {b = overwrite (a .loop .store) (next (s a) + n a) (part (nextLevel (taps (s a)) (part (a .loop .store) (s a .args .start) (s a .args .words))) (n a) 64)} (c .write-block .ensures .0)
+      (ap₂ (λ xs l. overwrite xs (next (s a) + n a) (part (nextLevel (taps (s a)) l) (n a) 64)) (a .loop .inv .1) (level-now a)
+      ∙ paste-part (s a .args .store .now) (above (s a)) (next (s a)) (n a) 64 (omega (arith, block-half t)) (omega (arith, block-half t, length-above (s a))))
 
 -- the word that a turn writes
 module _ (c : tie.After-level-word Inv-loop μ-loop) where
@@ -129,8 +139,25 @@ half-length-requires c κs = search needs
 write-rows-requires : tie.Need-write-rows-requires Inv-loop μ-loop
 write-rows-requires c κs = let s = c .before .before in (s .pre .0 .0, s .pre .0 .1, s .pre .0 .2, refl)
 
+mul-only-samples : tie.Need-mul-only-samples Inv-loop μ-loop
+mul-only-samples c = omega arith
+
+sub-only-samples : tie.Need-sub-only-samples Inv-loop μ-loop
+sub-only-samples c = omega arith
+
+part-only-samples-start : tie.Need-part-only-samples-start Inv-loop μ-loop
+part-only-samples-start c = omega arith
+
+part-only-samples-end : tie.Need-part-only-samples-end Inv-loop μ-loop
+part-only-samples-end c = omega arith
+
+only-samples-requires : tie.Need-only-samples-requires Inv-loop μ-loop
+only-samples-requires c κs k = let s = c .before .before .before .before .before in rw (lent s) (s .pre .1 k)
+
 loop-holds : tie.Need-loop-holds Inv-loop μ-loop
-loop-holds c = let s = c .before .before .before in (omega arith, paste-none (s .args .store .now) (next s) (above s), refl, refl)
+loop-holds c =
+    let s = c .before .before .before .before .before .before in
+    (omega arith, paste-none (s .args .store .now) (next s) (above s), (refl, refl, refl, refl))
 
 shared-slice-copy-out-if1 : tie.Need-shared-slice-copy-out-if1 Inv-loop μ-loop
 shared-slice-copy-out-if1 c = omega arith
@@ -150,19 +177,20 @@ add-if3 c = omega arith
 add-if3-2 : tie.Need-add-if3-2 Inv-loop μ-loop
 add-if3-2 c = omega arith
 
-write-group-requires : tie.Need-write-group-requires Inv-loop μ-loop
-write-group-requires c κs =
-    let t = c .before .before .before .before in
-    let a = w t in (
-      (s a .pre .0 .0, s a .pre .0 .1, s a .pre .0 .2, centre-narrow t, a .before .write-rows .ensures),
+write-block-requires : tie.Need-write-block-requires Inv-loop μ-loop
+write-block-requires c κs =
+    let t = c .before .before .before .before .before .before in
+    let a = w t in
+    let s = s a in (
+      (s .pre .0 .0, s .pre .0 .1, s .pre .0 .2, centre-narrow t, a .before .before .before .before .write-rows .ensures),
       (
-        (leb-true _ _ (t .before .if2 .taken), group-words t, omega (arith, group-half t, same-length-now a), a .loop .inv .2, a .loop .inv .3),
-        λ k. rw (level-now a) (s a .pre .1 k),
+        (leb-true _ _ (t .before .if2 .taken), block-words t, omega (arith, block-half t, same-length-now a)),
+        (a .loop .inv .2, (λ k. rw (level-now a) (s .pre .1 k), λ e. rw (level-now a) (rw (lent s) at (a .before .only-samples .ensures e)))),
       ),
     )
 
 add-n : tie.Need-add-n Inv-loop μ-loop
-add-n c = omega (arith, group-words (c .before .before .before .before .before .before))
+add-n c = omega (arith, block-words (t (c .before)))
 
 loop-less : tie.Need-loop-less Inv-loop μ-loop
 loop-less c = omega arith
@@ -170,8 +198,7 @@ loop-less c = omega arith
 loop-again : tie.Need-loop-again Inv-loop μ-loop
 loop-again c =
     let g = c .before in
-    let t = g .before .before .before .before .before in
-    (omega (arith, group-half t, half-is (w t)), group-written g, g .write-group .ensures .1 .0, g .write-group .ensures .1 .1)
+    (omega (arith, block-half (t g), half-is (w (t g))), block-written g, g .write-block .ensures .1)
 
 mul-level-word : tie.Need-mul-level-word Inv-loop μ-loop
 mul-level-word c = omega arith
@@ -215,7 +242,7 @@ loop-less-2 : tie.Need-loop-less-2 Inv-loop μ-loop
 loop-less-2 c = omega arith
 
 loop-again-2 : tie.Need-loop-again-2 Inv-loop μ-loop
-loop-again-2 c = (omega arith, simp (reads, word-fits c) (written c), a c .loop .inv .2, a c .loop .inv .3)
+loop-again-2 c = (omega arith, simp (reads, word-fits c) (written c), a c .loop .inv .2)
 
 same-length : tie.Need-same-length Inv-loop μ-loop
 same-length c = same-length-now (c .before)
@@ -234,6 +261,11 @@ next-level-spec =
     add-next
     half-length-requires
     write-rows-requires
+    mul-only-samples
+    sub-only-samples
+    part-only-samples-start
+    part-only-samples-end
+    only-samples-requires
     loop-holds
     shared-slice-copy-out-if1
     mul-if2
@@ -241,7 +273,7 @@ next-level-spec =
     mul-if3
     add-if3
     add-if3-2
-    write-group-requires
+    write-block-requires
     add-n
     loop-less
     loop-again

@@ -1,85 +1,85 @@
--- `octave::groups::add_last` meets its contract. The loop's invariant: the products are added to the sums below j. Assumes nothing.
-use mathlib.Core.Path.{_≡_, refl, ap, _∙_}
+-- `octave::groups::add_last` meets its contract. The loop's invariant: below j, sums and products are written. Assumes nothing.
+use mathlib.Core.Path.{_≡_, refl, _∙_}
 use mathlib.Core.List.{List}
 use Prim.Native.Nat.{ℕ, _+_, _-_, _≤_, _<_}
+use native.Mathlib.Decide.{ℕ-discrete}
 use native.Mathlib.Omega.{arith}
 use lib.IntN.{ℤ, pos, _+ℤ_}
 use lib.ListN.{length, set, length-set}
-use lib.Seq.{getD-set-other}
+use lib.Seq.{getD-set-same, getD-set-other}
 use mir.Syntax.{w32}
 use mir.Val.{SFits}
 use Rattle.arith.specs.Lists.{at}
 use Rattle.arith.proofs.Bits.{reads}
 use Rattle.arith.proofs.Integers.{abs-fits}
-use Rattle.arith.proofs.Lists.{filled-more}
 use Rattle.octave.proofs.groups.add_last.Statement.{statement}
 use Rattle.octave.proofs.groups.add_last.Tie as tie
 
 abbrev Inv-loop : tie.InvT-loop
-Inv-loop sums₀ last j₀ sums j =
-    (j ≤ 16) × (length sums ≡ 16) × ((i : ℕ) → i < j → at sums i ≡ at sums₀ i +ℤ at last i) × ((i : ℕ) → j ≤ i → at sums i ≡ at sums₀ i)
+Inv-loop sums last out₀ to j₀ out j = (j ≤ 16) × (length out ≡ 64) × ((i : ℕ) → i < j → at out (to + i) ≡ at sums i +ℤ at last i) × ((i : ℕ) → i < to → at out i ≡ at out₀ i)
 
 abbrev μ-loop : tie.MeasureT-loop
-μ-loop sums₀ last j₀ sums j = 16 - j
+μ-loop sums last out₀ to j₀ out j = 16 - j
 
 -- the sum that a turn writes
-module _ (c : tie.After-sums2 Inv-loop μ-loop) where
+module _ (c : tie.After-out2 Inv-loop μ-loop) where
   abbrev a : tie.At-loop Inv-loop μ-loop
   a = c .before .before .before
 
   abbrev j : ℕ
   j = a .loop .j
 
-  abbrev given : List ℤ
-  given = a .before .args .sums .now
+  abbrev s : tie.Start Inv-loop μ-loop
+  s = a .before
 
-  abbrev last : List ℤ
-  last = a .before .args .last .now
+  abbrev together : ℕ → ℤ
+  together i = at (s .args .sums .now) i +ℤ at (s .args .last .now) i
 
-  abbrev value : ℤ
-  value = at (a .loop .sums) j +ℤ at last j
+  sum-fits : SFits w32 (at (s .args .sums .now) j)
+  sum-fits = record { sfits = c .before .out .given }
 
-  sum-fits : SFits w32 (at (a .loop .sums) j)
-  sum-fits = record { sfits = c .before .sums .given }
+  last-fits : SFits w32 (at (s .args .last .now) j)
+  last-fits = record { sfits = c .out2 .given }
 
-  last-fits : SFits w32 (at last j)
-  last-fits = record { sfits = c .sums2 .given }
+  value-fits : SFits w32 (together j)
+  value-fits = abs-fits w32 (together j) (omega (arith, s .pre .1 j (omega arith)))
 
-  value-is : value ≡ at given j +ℤ at last j
-  value-is = ap (λ z. z +ℤ at last j) (a .loop .inv .3 j (omega arith))
+  written : (i : ℕ) → i < j + 1 → at (set (a .loop .out) (s .args .to + j) (together j)) (s .args .to + i) ≡ together i
+  written i l = go (ℕ-discrete i j)
+    where
+      go : Dec (i ≡ j) → at (set (a .loop .out) (s .args .to + j) (together j)) (s .args .to + i) ≡ together i
+      go (yes p) = rw p (getD-set-same (a .loop .out) (s .args .to + j) (together j) (pos 0) (omega arith))
+      go (no n) = getD-set-other (a .loop .out) (s .args .to + j) (s .args .to + i) (together j) (pos 0) (λ e. n (omega (arith, e))) ∙ a .loop .inv .2 i (omega arith)
 
-  value-fits : SFits w32 value
-  value-fits = rw value-is (abs-fits w32 (at given j +ℤ at last j) (omega (arith, a .before .pre .1 j (omega arith))))
-
-  written : (i : ℕ) → i < j + 1 → at (set (a .loop .sums) j value) i ≡ at given i +ℤ at last i
-  written = filled-more (pos 0) (λ i. at given i +ℤ at last i) (a .loop .sums) j (omega arith) (a .loop .inv .2) value-is
-
-  kept : (i : ℕ) → j + 1 ≤ i → at (set (a .loop .sums) j value) i ≡ at given i
-  kept i l = getD-set-other (a .loop .sums) j i value (pos 0) (λ e. omega (arith, e)) ∙ a .loop .inv .3 i (omega arith)
+  kept : (i : ℕ) → i < s .args .to → at (set (a .loop .out) (s .args .to + j) (together j)) i ≡ at (s .args .out .now) i
+  kept i l = getD-set-other (a .loop .out) (s .args .to + j) i (together j) (pos 0) (λ e. omega (arith, e)) ∙ a .loop .inv .3 i l
 
 loop-holds : tie.Need-loop-holds Inv-loop μ-loop
-loop-holds c = (omega arith, c .pre .0 .0, λ i l. absurd (omega arith), λ i l. refl)
+loop-holds c = (omega arith, c .pre .0 .3, λ i l. absurd (omega arith), λ i l. refl)
 
-mul-sums : tie.Need-mul-sums Inv-loop μ-loop
-mul-sums c = omega arith
+mul-out : tie.Need-mul-out Inv-loop μ-loop
+mul-out c = omega arith
 
-slice-copy-out-sums : tie.Need-slice-copy-out-sums Inv-loop μ-loop
-slice-copy-out-sums c = omega arith
+shared-slice-copy-out-out : tie.Need-shared-slice-copy-out-out Inv-loop μ-loop
+shared-slice-copy-out-out c = omega arith
 
-mul-sums-2 : tie.Need-mul-sums-2 Inv-loop μ-loop
-mul-sums-2 c = omega arith
+mul-out-2 : tie.Need-mul-out-2 Inv-loop μ-loop
+mul-out-2 c = omega arith
 
-shared-slice-copy-out-sums : tie.Need-shared-slice-copy-out-sums Inv-loop μ-loop
-shared-slice-copy-out-sums c = omega arith
+shared-slice-copy-out-out-2 : tie.Need-shared-slice-copy-out-out-2 Inv-loop μ-loop
+shared-slice-copy-out-out-2 c = omega arith
 
-add-sums : tie.Need-add-sums Inv-loop μ-loop
-add-sums c = simp (reads, sum-fits c, last-fits c) (value-fits c)
+add-out : tie.Need-add-out Inv-loop μ-loop
+add-out c = simp (reads, sum-fits c, last-fits c) (value-fits c)
 
-mul-t12 : tie.Need-mul-t12 Inv-loop μ-loop
-mul-t12 c = omega arith
+add-t14 : tie.Need-add-t14 Inv-loop μ-loop
+add-t14 c = omega arith
 
-slice-set-from-sums : tie.Need-slice-set-from-sums Inv-loop μ-loop
-slice-set-from-sums c = omega arith
+mul-t15 : tie.Need-mul-t15 Inv-loop μ-loop
+mul-t15 c = omega arith
+
+element-set-from-out : tie.Need-element-set-from-out Inv-loop μ-loop
+element-set-from-out c = omega arith
 
 add-j : tie.Need-add-j Inv-loop μ-loop
 add-j c = omega arith
@@ -95,11 +95,8 @@ loop-again c = (
   simp (reads, sum-fits c, last-fits c, value-fits c) (kept c),
 )
 
-same-length : tie.Need-same-length Inv-loop μ-loop
-same-length c = omega arith
-
 returns : tie.Need-returns Inv-loop μ-loop
-returns c = let a = c .before in (λ i l. a .loop .inv .2 i (omega arith), a .loop .inv .1)
+returns c = let a = c .before in (λ i l. a .loop .inv .2 i (omega arith), (a .loop .inv .3, a .loop .inv .1))
 
 pub add-last-spec : {M : Type 1} → statement M
 add-last-spec =
@@ -108,15 +105,15 @@ add-last-spec =
     Inv-loop
     μ-loop
     loop-holds
-    mul-sums
-    slice-copy-out-sums
-    mul-sums-2
-    shared-slice-copy-out-sums
-    add-sums
-    mul-t12
-    slice-set-from-sums
+    mul-out
+    shared-slice-copy-out-out
+    mul-out-2
+    shared-slice-copy-out-out-2
+    add-out
+    add-t14
+    mul-t15
+    element-set-from-out
     add-j
     loop-less
     loop-again
-    same-length
     returns)

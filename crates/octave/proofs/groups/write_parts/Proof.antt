@@ -22,8 +22,8 @@ use Rattle.octave.proofs.groups.write_parts.Tie as tie
 abbrev Inv-loop : tie.InvT-loop
 Inv-loop level count high₀ low₀ i₀ high low i =
     (i ≤ count)
-    × (length high ≡ 112)
-    × (length low ≡ 112)
+    × (length high ≡ 208)
+    × (length low ≡ 208)
     × ((k : ℕ) → k < i → at high k ≡ upperPart (at level k))
     × ((k : ℕ) → k < i → at low k ≡ lowerPart (at level k))
 

@@ -1,0 +1,182 @@
+-- `octave::groups::sample_block` meets its contract: the sums of samples are those of sixty-four words, and rounding them gives the words. Assumes nothing.
+use mathlib.Core.Path.{_≡_, refl, ap, ap₂, subst, _∙_}
+use mathlib.Core.List.{List}
+use Prim.Native.Nat.{ℕ, suc, _+_, _-_, _*_, _/_, _%_, _^_, _≤_, _<_}
+use native.Mathlib.Nat.{le-refl, le-trans}
+use native.Mathlib.Decide.{decLe}
+use native.Mathlib.Omega.{arith}
+use borrow.Author.Needs.{needs}
+use lib.Dec.{lit≤}
+use lib.IntN.{ℤ, pos, natAbs, _+ℤ_, _*ℤ_}
+use lib.ListN.{length}
+use Rattle.arith.specs.Floor.{near}
+use Rattle.arith.specs.Lists.{at, part, overwrite}
+use Rattle.arith.proofs.Lists.{at-outside, part-length}
+use Rattle.octave.specs.Octave.{halfLength}
+use Rattle.octave.specs.Inner.{upperPart, lowerPart, samplePart, pairProduct, pairSum, placeOf, shift}
+use Rattle.octave.proofs.Octave.{halfLength-holds}
+use Rattle.octave.proofs.PairSums.{sample-small, lent-at, lane-small, lane-product-small, sample-lanes, block-words}
+use Rattle.octave.proofs.groups.sample_block.Statement.{statement}
+use Rattle.octave.proofs.groups.sample_block.Tie as tie
+
+module _ (s : tie.Start) where
+  abbrev taps : List ℤ
+  taps = s .args .taps .now
+
+  abbrev rows : List ℤ
+  rows = s .args .rows .now
+
+  abbrev store : List ℤ
+  store = s .args .store .now
+
+  abbrev level : List ℤ
+  level = part store (s .args .start) (s .args .words)
+
+  abbrev n : ℕ
+  n = s .args .n
+
+  abbrev first : ℕ
+  first = s .args .start + 2 * n + 1 - length taps
+
+  abbrev behind : ℕ
+  behind = s .args .start + s .args .words - first
+
+  length-lent : length (part store first behind) ≡ behind
+  length-lent = part-length store first behind (omega arith)
+
+  lent : (i : ℕ) → i < behind → at (part store first behind) i ≡ at level (2 * n + 1 - length taps + i)
+  lent = lent-at store (s .args .start) (s .args .words) n (length taps) (s .pre .1 .0 .0)
+
+  block-inside : n + 64 ≤ halfLength (length level)
+  block-inside =
+      let e = part-length store (s .args .start) (s .args .words) (omega arith) in
+      omega (arith, halfLength-holds (length level) (n + 63) (omega (arith, e)))
+
+-- the words in one part
+module _ (w : tie.After-write-samples) where
+  abbrev s : tie.Start
+  s = w .before .before .before .before
+
+  abbrev highs : List ℤ
+  highs = w .write-samples .last .1 .1 .0
+
+  staged : (i : ℕ) → i < 2 * length (taps s) + 126 → at highs i ≡ samplePart (at (level s) (2 * n s + 1 - length (taps s) + i))
+  staged i l = w .write-samples .ensures .0 i (omega arith) ∙ ap samplePart (lent s i (omega arith))
+
+  module _ (p j : ℕ) (lp : p < 4) (lj : j < 16) where
+    lines-small : (k : ℕ) → k ≤ length (taps s) → natAbs (pairSum (rows s) highs (0 + shift 64 p) (2 + shift 64 p) k j) ≤ 2 ^ 30
+    lines-small = lane-small (taps s) (s .pre .0 .2) (s .pre .0 .3) (s .pre .0 .0) (rows s) (s .pre .0 .4) (level s) (n s) (s .pre .1 .0 .0) highs samplePart staged p j lp lj 32768 (λ k. sample-small (at (level s) k))
+
+    products-small : (k : ℕ) → k < length (taps s) → natAbs (pairProduct (rows s) highs (placeOf (0 + shift 64 p) (2 + shift 64 p) k) k j) ≤ 2 ^ 30
+    products-small = lane-product-small (taps s) (s .pre .0 .2) (s .pre .0 .3) (s .pre .0 .0) (rows s) (s .pre .0 .4) (level s) (n s) (s .pre .1 .0 .0) highs samplePart staged p j lp lj 32768 (λ k. sample-small (at (level s) k))
+
+-- the sums
+module _ (u : tie.After-all-sums) where
+  abbrev w : tie.After-write-samples
+  w = u .before .before .before
+
+  sums-small : (t : ℕ) → t < 64 → natAbs (at (u .all-sums .last .1 .1 .1 .1 .1 .1 .0) t) ≤ 2 ^ 30
+  sums-small t l =
+      let p = t / 16 in
+      let j = t % 16 in
+      let lp : p < 4 = omega arith in
+      let lj : j < 16 = omega arith in
+      let e : 16 * p + j ≡ t = omega arith in
+      subst (λ i. natAbs (at (u .all-sums .last .1 .1 .1 .1 .1 .1 .0) i) ≤ 2 ^ 30) e (rw (u .all-sums .ensures .0 p j lp lj) (lines-small w p j lp lj (length (taps (s w))) (le-refl (length (taps (s w))))))
+
+add-next : tie.Need-add-next
+add-next c = search needs
+
+add-place : tie.Need-add-place
+add-place c = search needs
+
+mul-first : tie.Need-mul-first
+mul-first c = search needs
+
+add-first : tie.Need-add-first
+add-first c = search needs
+
+add-first-2 : tie.Need-add-first-2
+add-first-2 c = search needs
+
+sub-first : tie.Need-sub-first
+sub-first c = search needs
+
+mul-write-samples : tie.Need-mul-write-samples
+mul-write-samples c = search needs
+
+sub-write-samples : tie.Need-sub-write-samples
+sub-write-samples c = search needs
+
+part-write-samples-start : tie.Need-part-write-samples-start
+part-write-samples-start c = search needs
+
+part-write-samples-end : tie.Need-part-write-samples-end
+part-write-samples-end c = search needs
+
+mul-write-samples-2 : tie.Need-mul-write-samples-2
+mul-write-samples-2 c = search needs
+
+add-write-samples : tie.Need-add-write-samples
+add-write-samples c = search needs
+
+mul-write-samples-3 : tie.Need-mul-write-samples-3
+mul-write-samples-3 c = search needs
+
+write-samples-requires : tie.Need-write-samples-requires
+write-samples-requires c κs = let s = c .before .before .before in
+    (omega (arith, length-lent s), omega arith, s .pre .1 .1 .0)
+
+all-sums-requires : tie.Need-all-sums-requires
+all-sums-requires c κs = let w = c .before .before in (
+  (s w .pre .0 .1, omega arith, omega arith, s w .pre .1 .1 .1),
+  (λ p k j lp l lj. lines-small w p j lp lj k l, λ p k j lp l lj. products-small w p j lp lj k l),
+)
+
+round-samples-requires : tie.Need-round-samples-requires
+round-samples-requires c κs = let u = c .before in (sums-small u, u .all-sums .ensures .1)
+
+write-words-requires : tie.Need-write-words-requires
+write-words-requires c κs = omega arith
+
+same-length : tie.Need-same-length
+same-length c = search needs
+
+returns : tie.Need-returns
+returns c = let r = c .before .before .before .before in
+    let u = r .before .before in
+    let w = w u in
+    let s = s w in (
+      c .before .write-words .ensures
+          ∙ ap (overwrite (store s) (s .args .start + s .args .words + n s))
+          (block-words (taps s) (level s) (r .round-samples .last .0) (n s) (block-inside s)
+          (λ p j lp lj. r .round-samples .ensures .0 (16 * p + j) (omega arith)
+          ∙ ap (λ z. near z 16384)
+          (ap (λ x. pos 256 *ℤ x) (u .all-sums .ensures .0 p j lp lj)
+          ∙ sample-lanes (taps s) (s .pre .0 .2) (s .pre .0 .3) (s .pre .0 .0) (rows s) (s .pre .0 .4) (level s) (n s) (s .pre .1 .0 .0) p j lp lj (highs w) (s .pre .1 .1 .2) (staged w)))),
+      (w .write-samples .ensures .1, r .round-samples .ensures .1),
+    )
+
+pub sample-block-spec : {M : Type 1} → statement M
+sample-block-spec =
+    tie.close
+    (tie.spec
+    add-next
+    add-place
+    mul-first
+    add-first
+    add-first-2
+    sub-first
+    mul-write-samples
+    sub-write-samples
+    part-write-samples-start
+    part-write-samples-end
+    mul-write-samples-2
+    add-write-samples
+    mul-write-samples-3
+    write-samples-requires
+    all-sums-requires
+    round-samples-requires
+    write-words-requires
+    same-length
+    returns)
