@@ -4,10 +4,10 @@ use mathlib.Core.Path.{_≡_, refl, sym, ap, ap₂, _∙_}
 use mathlib.Core.List.{List}
 use Prim.Native.Nat.{ℕ, zero, suc, _+_, _-_, _*_, _/_, _%_, _^_, _≤_, _<_, pred}
 use native.Mathlib.Nat.{le-refl, le-trans, mul-le-mul}
-use native.Mathlib.Decide.{decLe}
+use native.Mathlib.Decide.{decLe, ℕ-discrete}
 use native.Mathlib.Omega.{arith}
 use lib.IntN.{ℤ, pos, negsuc, natAbs, _+ℤ_, _-ℤ_, _*ℤ_}
-use lib.ListN.{length, set, replicate}
+use lib.ListN.{length, set, replicate, length-set}
 use lib.Seq.{getD-set-same, getD-set-other}
 use lib.Signed.{shrZ, _<ℤ_, _≤ℤ_}
 use Rattle.arith.specs.Floor.{floorDiv, near}
@@ -18,14 +18,14 @@ use Rattle.arith.proofs.Floor.{floor-≤, floor-<, floor-bound}
 use Rattle.arith.proofs.Integers.{abs-triangle, abs-*-≤, abs-≤}
 use Rattle.arith.proofs.Limit.{limit-between, limit-same}
 use Rattle.arith.proofs.Linear.{linear}
-use Rattle.arith.proofs.Lists.{at-outside, at-part}
+use Rattle.arith.proofs.Lists.{at-outside, at-part, part-length}
 use Rattle.arith.proofs.Parts.{tabulate-part}
 use Rattle.arith.proofs.Ring.{products, terms}
 use Rattle.arith.proofs.Sum.{sum-ext, sum-+, sum-*, sum-more, sum-abs-*, sum-around, total-mono, total-more, total-around}
 use Rattle.book.specs.Check.{tapSum}
 use Rattle.book.proofs.Around.{tap-bound}
 use Rattle.octave.specs.Octave.{halfLength, levelSum, levelWord, nextLevel}
-use Rattle.octave.specs.Inner.{Rows, upperPart, lowerPart, samplePart, Samples, pairProduct, pairSum, placeOf, shift}
+use Rattle.octave.specs.Inner.{Rows, upperPart, lowerPart, samplePart, Samples, pairProduct, pairSum, placeOf, shift, lineSum, Small, Split}
 use Rattle.octave.proofs.Octave.{length-next, at-next}
 
 -- ---- shifts
@@ -48,6 +48,22 @@ pub zeros-at : (n j : ℕ) → at (replicate n (pos 0)) j ≡ pos 0
 zeros-at zero j = refl
 zeros-at (suc n) zero = refl
 zeros-at (suc n) (suc j) = zeros-at n j
+
+-- words of two halves of a list, set together
+pub split-more : (f : ℤ → ℤ) (level xs : List ℤ) (i : ℕ) (v w : ℤ) → i < 104 → length xs ≡ 208 → Split f level i xs → v ≡ f (at level (2 * i)) → w ≡ f (at level (2 * i + 1))
+    → Split f level (i + 1) (set (set xs i v) (104 + i) w)
+split-more f level xs i v w l m before first second k lk = (
+  getD-set-other (set xs i v) (104 + i) k w (pos 0) (λ e. omega (arith, e)) ∙ front (ℕ-discrete k i),
+  back (ℕ-discrete k i),
+)
+  where
+    front : Dec (k ≡ i) → at (set xs i v) k ≡ f (at level (2 * k))
+    front (yes e) = rw e (getD-set-same xs i v (pos 0) (omega arith) ∙ first)
+    front (no n) = getD-set-other xs i k v (pos 0) n ∙ before k (omega arith) .0
+
+    back : Dec (k ≡ i) → at (set (set xs i v) (104 + i) w) (104 + k) ≡ f (at level (2 * k + 1))
+    back (yes e) = rw e (getD-set-same (set xs i v) (104 + i) w (pos 0) (simp length-set (omega arith)) ∙ second)
+    back (no n) = getD-set-other (set xs i v) (104 + i) (104 + k) w (pos 0) (λ e. n (omega (arith, e))) ∙ getD-set-other xs i (104 + k) v (pos 0) (λ e. omega (arith, e)) ∙ before k (omega arith) .1
 
 -- ---- parts of a word
 
@@ -140,6 +156,19 @@ module _ (rows : List ℤ) (m : ℕ) (t : ℕ → ℤ) (weight : total (2 * m) (
           ))
           (mul-le-mul two (le-refl bound)))
 
+  -- times words x, by line
+  module _ (xs : List ℤ) (a b far : ℕ) (x : ℕ → ℕ → ℕ → ℤ)
+      (stand : (p j k : ℕ) → p < 4 → j < 16 → k < m
+      → (at xs (placeOf (a + shift far p) (b + shift far p) k + 2 * j) ≡ x p j (2 * k)) × (at xs (placeOf (a + shift far p) (b + shift far p) k + 2 * j + 1) ≡ x p j (2 * k + 1))) where
+    pub lines : (p j : ℕ) → p < 4 → j < 16 → lineSum rows xs a b far m p j ≡ sum (2 * m) (λ c. t c *ℤ x p j c)
+    lines p j lp lj = line-sum xs (a + shift far p) (b + shift far p) j (x p j) lj (λ k l. stand p j k lp lj l) m (le-refl m)
+
+    pub lines-small : (bound : ℕ) → ((p j c : ℕ) → natAbs (x p j c) ≤ bound) → Small rows xs a b far m (32768 * bound)
+    lines-small bound small = (
+      λ p k j lp l lj. sum-small xs (a + shift far p) (b + shift far p) j (x p j) lj (λ i. stand p j i lp lj) bound (small p j) k l,
+      λ p k j lp l lj. product-small xs (a + shift far p) (b + shift far p) j (x p j) lj (λ i. stand p j i lp lj) bound (small p j) k l,
+    )
+
 -- ---- taps in the order of time
 
 suc-pred : (n : ℕ) → 1 ≤ n → suc (pred n) ≡ n
@@ -147,7 +176,7 @@ suc-pred n l = omega arith
 
 module _ (h : List ℤ) (small : tapSum h ≤ 32768) (narrow : at h 0 <ℤ pos 32768) (some : 1 ≤ length h) where
   -- no tap is limited
-  same-tap : (d : ℕ) → limit (negsuc 32767) (pos 32767) (at h d) ≡ at h d
+  pub same-tap : (d : ℕ) → limit (negsuc 32767) (pos 32767) (at h d) ≡ at h d
   unfolding tapSum total
   same-tap d = go (decLe (suc d) (length h))
     where
@@ -227,11 +256,13 @@ module _ (h : List ℤ) (small : tapSum h ≤ 32768) (narrow : at h 0 <ℤ pos 3
 
 -- ---- words of a block
 
--- pairs in a row
-in-row : (s k : ℕ) → placeOf (0 + s) (2 + s) k ≡ s + 2 * k
-unfolding placeOf
-in-row s zero = omega arith
-in-row s (suc k) = omega arith
+-- sixty-four words, wherever each stands
+pub block-words : (h level xs : List ℤ) (n : ℕ) (place : ℕ → ℕ) → n + 64 ≤ halfLength (length level)
+    → ((i : ℕ) → i < 64 → at xs (place i) ≡ near (levelSum h level (n + i)) 16384)
+    → tabulate 64 (λ i. at xs (place i)) ≡ part (nextLevel h level) n 64
+unfolding levelWord
+block-words h level xs n place l are =
+    tabulate-part (nextLevel h level) n 64 (λ i. at xs (place i)) (omega (arith, length-next h level)) (λ i m. are i m ∙ sym (at-next h level (n + i) (omega arith)))
 
 -- the words as the code lends them, from the first that it reads on
 module _ (store : List ℤ) (start words n count : ℕ) (inside : count ≤ 2 * n + 1) where
@@ -246,6 +277,19 @@ module _ (store : List ℤ) (start words n count : ℕ) (inside : count ≤ 2 * 
       let e : from + i ≡ start + (2 * n + 1 - count + i) = omega arith in
       at-part store from behind i l ∙ ap (at store) e ∙ sym (at-part store start words (2 * n + 1 - count + i) (omega arith))
 
+  pub lent-small : start + words ≤ length store → 2 * n + 1 ≤ count + words → (c : ℕ) → ((k : ℕ) → natAbs (at (part store start words) k) ≤ c) → (i : ℕ) → natAbs (at (part store from behind) i) ≤ c
+  lent-small all near c small i = go (decLe (suc i) behind)
+    where
+      go : Dec (i < behind) → natAbs (at (part store from behind) i) ≤ c
+      go (yes l) = rw (lent-at i l) (small (2 * n + 1 - count + i))
+      go (no l) = rw (at-outside (part store from behind) i (omega (arith, part-length store from behind (omega arith)))) (omega arith)
+
+-- pairs in a row
+in-row : (s k : ℕ) → placeOf (0 + s) (2 + s) k ≡ s + 2 * k
+unfolding placeOf
+in-row s zero = omega arith
+in-row s (suc k) = omega arith
+
 module _ (h : List ℤ) (small : tapSum h ≤ 32768) (narrow : at h 0 <ℤ pos 32768) (some : 1 ≤ length h) (rows : List ℤ) (are : Rows h rows) (level : List ℤ) (n : ℕ) (inside : length h ≤ 2 * n + 1) where
   abbrev begin : ℕ
   begin = 2 * n + 1 - length h
@@ -253,65 +297,40 @@ module _ (h : List ℤ) (small : tapSum h ≤ 32768) (narrow : at h 0 <ℤ pos 3
   abbrev turn : ℕ → ℤ
   turn = tap h small narrow some
 
-  -- sum j of line p, of a list that has f of each word
-  module _ (xs : List ℤ) (f : ℤ → ℤ) (staged : (i : ℕ) → i < 2 * length h + 126 → at xs i ≡ f (at level (begin + i))) (p j : ℕ) (lp : p < 4) (lj : j < 16) where
-    abbrev word : ℕ → ℤ
-    word c = at level (begin + (2 * (16 * p + j) + c))
+  abbrev word : ℕ → ℕ → ℕ → ℤ
+  word p j c = at level (begin + (2 * (16 * p + j) + c))
 
-    stand : (k : ℕ) → k < length h
-        → (at xs (placeOf (0 + shift 64 p) (2 + shift 64 p) k + 2 * j) ≡ f (word (2 * k))) × (at xs (placeOf (0 + shift 64 p) (2 + shift 64 p) k + 2 * j + 1) ≡ f (word (2 * k + 1)))
-    stand k l =
+  -- a list that has f of each word
+  module _ (xs : List ℤ) (f : ℤ → ℤ) (staged : (i : ℕ) → i < 2 * length h + 126 → at xs i ≡ f (at level (begin + i))) where
+    stand : (p j k : ℕ) → p < 4 → j < 16 → k < length h
+        → (at xs (placeOf (0 + shift 64 p) (2 + shift 64 p) k + 2 * j) ≡ f (word p j (2 * k))) × (at xs (placeOf (0 + shift 64 p) (2 + shift 64 p) k + 2 * j + 1) ≡ f (word p j (2 * k + 1)))
+    stand p j k lp lj l =
         let e = in-row (shift 64 p) k in
         let e₀ : placeOf (0 + shift 64 p) (2 + shift 64 p) k + 2 * j ≡ 2 * (16 * p + j) + 2 * k = omega (arith, e) in
         let e₁ : placeOf (0 + shift 64 p) (2 + shift 64 p) k + 2 * j + 1 ≡ 2 * (16 * p + j) + (2 * k + 1) = omega (arith, e) in
         (ap (at xs) e₀ ∙ staged (2 * (16 * p + j) + 2 * k) (omega arith), ap (at xs) e₁ ∙ staged (2 * (16 * p + j) + (2 * k + 1)) (omega arith))
 
-    lane-sum : pairSum rows xs (0 + shift 64 p) (2 + shift 64 p) (length h) j ≡ sum (2 * length h) (λ c. turn c *ℤ f (word c))
-    lane-sum =
-        line-sum rows (length h) turn (taps-total h small narrow some) (rows-hold h small narrow some rows are) xs (0 + shift 64 p) (2 + shift 64 p) j (λ c. f (word c)) lj stand (length h)
-        (le-refl (length h))
+    all-lines : (p j : ℕ) → p < 4 → j < 16 → lineSum rows xs 0 2 64 (length h) p j ≡ sum (2 * length h) (λ c. turn c *ℤ f (word p j c))
+    all-lines = lines rows (length h) turn (taps-total h small narrow some) (rows-hold h small narrow some rows are) xs 0 2 64 (λ p j c. f (word p j c)) stand
 
-    module _ (bound : ℕ) (low : (k : ℕ) → natAbs (f (at level k)) ≤ bound) where
-      pub lane-small : (m : ℕ) → m ≤ length h → natAbs (pairSum rows xs (0 + shift 64 p) (2 + shift 64 p) m j) ≤ 32768 * bound
-      lane-small =
-          sum-small rows (length h) turn (taps-total h small narrow some) (rows-hold h small narrow some rows are) xs (0 + shift 64 p) (2 + shift 64 p) j (λ c. f (word c)) lj stand bound
-          (λ c. low (begin + (2 * (16 * p + j) + c)))
+    pub all-small : (bound : ℕ) → ((k : ℕ) → natAbs (f (at level k)) ≤ bound) → Small rows xs 0 2 64 (length h) (32768 * bound)
+    all-small bound low =
+        lines-small rows (length h) turn (taps-total h small narrow some) (rows-hold h small narrow some rows are) xs 0 2 64 (λ p j c. f (word p j c)) stand bound
+        (λ p j c. low (begin + (2 * (16 * p + j) + c)))
 
-      pub lane-product-small : (k : ℕ) → k < length h → natAbs (pairProduct rows xs (placeOf (0 + shift 64 p) (2 + shift 64 p) k) k j) ≤ 32768 * bound
-      lane-product-small =
-          product-small rows (length h) turn (taps-total h small narrow some) (rows-hold h small narrow some rows are) xs (0 + shift 64 p) (2 + shift 64 p) j (λ c. f (word c)) lj stand bound
-          (λ c. low (begin + (2 * (16 * p + j) + c)))
-
-  -- such sums of both parts, and of samples, are the sum around a word
+  -- sums of both parts, and of samples, are the sum around a word
   module _ (p j : ℕ) (lp : p < 4) (lj : j < 16) where
-    abbrev lane : List ℤ → ℤ
-    lane xs = pairSum rows xs (0 + shift 64 p) (2 + shift 64 p) (length h) j
-
-    abbrev words : ℕ → ℤ
-    words c = at level (begin + (2 * (16 * p + j) + c))
-
-    pub part-lanes : (highs lows : List ℤ) → ((i : ℕ) → i < 2 * length h + 126 → at highs i ≡ upperPart (at level (begin + i)))
+    pub part-lines : (highs lows : List ℤ) → ((i : ℕ) → i < 2 * length h + 126 → at highs i ≡ upperPart (at level (begin + i)))
         → ((i : ℕ) → i < 2 * length h + 126 → at lows i ≡ lowerPart (at level (begin + i)))
-        → pos 65536 *ℤ lane highs +ℤ lane lows ≡ levelSum h level (n + (16 * p + j))
-    part-lanes highs lows upper lower =
-        ap₂ (λ x y. pos 65536 *ℤ x +ℤ y) (lane-sum highs upperPart upper p j lp lj) (lane-sum lows lowerPart lower p j lp lj)
-        ∙ by-parts (2 * length h) turn words
+        → pos 65536 *ℤ lineSum rows highs 0 2 64 (length h) p j +ℤ lineSum rows lows 0 2 64 (length h) p j ≡ levelSum h level (n + (16 * p + j))
+    part-lines highs lows upper lower =
+        ap₂ (λ x y. pos 65536 *ℤ x +ℤ y) (all-lines highs upperPart upper p j lp lj) (all-lines lows lowerPart lower p j lp lj)
+        ∙ by-parts (2 * length h) turn (word p j)
         ∙ sum-is h small narrow some level n (16 * p + j) inside
 
-    pub sample-lanes : (xs : List ℤ) → Samples level → ((i : ℕ) → i < 2 * length h + 126 → at xs i ≡ samplePart (at level (begin + i)))
-        → pos 256 *ℤ lane xs ≡ levelSum h level (n + (16 * p + j))
-    sample-lanes xs samples staged =
-        ap (λ x. pos 256 *ℤ x) (lane-sum xs samplePart staged p j lp lj)
-        ∙ by-samples (2 * length h) turn words (λ c l. samples (begin + (2 * (16 * p + j) + c)))
+    pub sample-lines : (xs : List ℤ) → Samples level → ((i : ℕ) → i < 2 * length h + 126 → at xs i ≡ samplePart (at level (begin + i)))
+        → pos 256 *ℤ lineSum rows xs 0 2 64 (length h) p j ≡ levelSum h level (n + (16 * p + j))
+    sample-lines xs samples staged =
+        ap (λ x. pos 256 *ℤ x) (all-lines xs samplePart staged p j lp lj)
+        ∙ by-samples (2 * length h) turn (word p j) (λ c l. samples (begin + (2 * (16 * p + j) + c)))
         ∙ sum-is h small narrow some level n (16 * p + j) inside
-
--- sixty-four words, by line
-pub block-words : (h level xs : List ℤ) (n : ℕ) → n + 64 ≤ halfLength (length level)
-    → ((p j : ℕ) → p < 4 → j < 16 → at xs (16 * p + j) ≡ near (levelSum h level (n + (16 * p + j))) 16384)
-    → tabulate 64 (at xs) ≡ part (nextLevel h level) n 64
-unfolding levelWord
-block-words h level xs n l are =
-    tabulate-part (nextLevel h level) n 64 (at xs) (omega (arith, length-next h level))
-    (λ t m.
-    let e : 16 * (t / 16) + t % 16 ≡ t = omega arith in
-    ap (at xs) (sym e) ∙ are (t / 16) (t % 16) (omega arith) (omega arith) ∙ ap (λ i. near (levelSum h level (n + i)) 16384) e ∙ sym (at-next h level (n + t) (omega arith)))

@@ -1,7 +1,8 @@
 -- Definitions that only inner functions' contracts cite: no rule of document 01, but a step of the code that computes one.
+use mathlib.Core.Bool.{Bool, cond}
 use mathlib.Core.List.{List}
 use mathlib.Core.Path.{_≡_}
-use Prim.Native.Nat.{ℕ, zero, suc, _+_, _*_, _/_, _%_, _<_, pred}
+use Prim.Native.Nat.{ℕ, zero, suc, _+_, _*_, _/_, _%_, _≤_, _<_, pred}
 use lib.IntN.{ℤ, pos, negsuc, natAbs, _+ℤ_, _-ℤ_, _*ℤ_}
 use lib.ListN.{length}
 use Rattle.arith.specs.Floor.{floorDiv}
@@ -48,3 +49,37 @@ pairSum rows words a b m j = sum m (λ k. pairProduct rows words (placeOf a b k)
 -- how far on the words of sixteen sums begin
 abbrev pub shift : ℕ → ℕ → ℕ
 shift far p = p / 2 * far + p % 2 * 32
+
+-- sum j of line p of four
+abbrev pub lineSum : List ℤ → List ℤ → ℕ → ℕ → ℕ → ℕ → ℕ → ℕ → ℤ
+lineSum rows words a b far m p j = pairSum rows words (a + shift far p) (b + shift far p) m j
+
+-- all sums over fewer pairs too, and what each pair adds, are at most c
+abbrev pub Small : List ℤ → List ℤ → ℕ → ℕ → ℕ → ℕ → ℕ → Type 0
+Small rows words a b far m c =
+    ((p k j : ℕ) → p < 4 → k ≤ m → j < 16 → natAbs (lineSum rows words a b far k p j) ≤ c)
+    × ((p k j : ℕ) → p < 4 → k < m → j < 16 → natAbs (pairProduct rows words (placeOf (a + shift far p) (b + shift far p) k) k j) ≤ c)
+
+-- ---- half-band taps
+
+-- those at an even distance from the centre are 0
+abbrev pub HalfBand : List ℤ → Type 0
+HalfBand h = (e : ℕ) → at h (2 * e + 2) ≡ pos 0
+
+-- tap c of those at an odd distance, in the order of time, limited to 16 bits
+abbrev pub oddTap : List ℤ → ℕ → ℤ
+oddTap h c = limit (negsuc 32767) (pos 32767) (at h (natAbs (pos (2 * c + 1) -ℤ pos (2 * (length h / 2)))))
+
+-- the centre's pair, and the pairs of those, sixteen times each
+abbrev pub BandRows : List ℤ → List ℤ → Type 0
+BandRows h rows =
+    ((j : ℕ) → j < 16 → (at rows (2 * j) ≡ limit (negsuc 32767) (pos 32767) (at h 0)) × (at rows (2 * j + 1) ≡ pos 0))
+    × ((k j : ℕ) → k < length h / 2 → j < 16 → (at rows (32 * (k + 1) + 2 * j) ≡ oddTap h (2 * k)) × (at rows (32 * (k + 1) + 2 * j + 1) ≡ oddTap h (2 * k + 1)))
+
+-- f of the first words of pairs, and 104 places on of the second
+abbrev pub Split : (ℤ → ℤ) → List ℤ → ℕ → List ℤ → Type 0
+Split f level count words = (i : ℕ) → i < count → (at words i ≡ f (at level (2 * i))) × (at words (104 + i) ≡ f (at level (2 * i + 1)))
+
+-- the rows of the way that is taken
+abbrev pub Ready : Bool → List ℤ → List ℤ → Type 0
+Ready band h rows = cond band ((2 ≤ length h) × HalfBand h × BandRows h rows) (Rows h rows)

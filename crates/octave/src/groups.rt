@@ -1,7 +1,6 @@
 // Sixty-four words of the level above at a time, in 16-bit numbers: words in one part or two, and taps in pairs. Four such words are centred on every
 // second of eight words in a row, so that the processor takes their products with a pair of taps, and adds them two by two, in one step.
 
-ghost use mathlib.Core.Bool.{true};
 ghost use mathlib.Core.Path.{_≡_};
 ghost use Prim.Native.Nat.{ℕ, _+_, _*_, _^_, _≤_, _<_};
 ghost use lib.IntN.{pos, natAbs, _+ℤ_, _*ℤ_};
@@ -11,8 +10,9 @@ ghost use Rattle.arith.specs.Floor.{near};
 ghost use Rattle.arith.specs.Lists.{at, part, tabulate, overwrite};
 ghost use Rattle.book.specs.Check.{tapSum};
 ghost use Rattle.octave.specs.Octave.{nextLevel};
-ghost use Rattle.octave.specs.Inner.{timeTap, Rows, upperPart, lowerPart, samplePart, Samples, pairProduct, pairSum, placeOf, shift};
-use arith::narrow;
+ghost use Rattle.octave.specs.Inner.{timeTap, Rows, Samples, pairProduct, pairSum, placeOf, lineSum, Small};
+use crate::parts::write_parts;
+use crate::parts::write_samples;
 
 // Tap c in the order of time, 0 behind the last.
 fn time_tap(taps: &[i32], c: usize) -> i16
@@ -30,7 +30,7 @@ fn time_tap(taps: &[i32], c: usize) -> i16
 }
 
 // Pair k, sixteen times.
-fn write_row(first: i16, second: i16, k: usize, rows: &mut [i16; 1312])
+pub(crate) fn write_row(first: i16, second: i16, k: usize, rows: &mut [i16; 1312])
     requires { ⌜ (k < 41) × (length (now rows) ≡ 1312) ⌝ }
     ensures { λ _. ⌜ ((j : ℕ) → j < 16 → (at (now (rows .exit)) (32 * k + 2 * j) ≡ first) × (at (now (rows .exit)) (32 * k + 2 * j + 1) ≡ second)) ⌝ }
     ensures { λ _. ⌜ ((i : ℕ) → i < 32 * k → at (now (rows .exit)) i ≡ at (now (rows .entry)) i) ⌝ }
@@ -55,37 +55,6 @@ pub(crate) fn write_rows(taps: &[i32], rows: &mut [i16; 1312])
         let second = time_tap(taps, 2 * k + 1);
         write_row(first, second, k, rows);
         k += 1;
-    }
-}
-
-// Both parts of the first `count` words.
-fn write_parts(level: &[i32], count: usize, high: &mut [i16; 208], low: &mut [i16; 208])
-    requires { ⌜ (count ≤ length (now level)) × (count ≤ 208) × (length (now high) ≡ 208) × (length (now low) ≡ 208) ⌝ }
-    requires { ⌜ ((i : ℕ) → natAbs (at (now level) i) ≤ 2 ^ 26) ⌝ }
-    ensures { λ _. ⌜ ((i : ℕ) → i < count → at (now (high .exit)) i ≡ upperPart (at (now (level .entry)) i)) ⌝ }
-    ensures { λ _. ⌜ ((i : ℕ) → i < count → at (now (low .exit)) i ≡ lowerPart (at (now (level .entry)) i)) ⌝ }
-    ensures { λ _. ⌜ (length (now (high .exit)) ≡ 208) × (length (now (low .exit)) ≡ 208) ⌝ }
-{
-    let mut i = 0;
-    while i < count {
-        let x = level[i];
-        let y = (x + 32768) >> 16;
-        high[i] = y as i16;
-        low[i] = (x - y * 65536) as i16;
-        i += 1;
-    }
-}
-
-// The first `count` words in one part, for words that are samples × 256.
-fn write_samples(level: &[i32], count: usize, high: &mut [i16; 208])
-    requires { ⌜ (count ≤ length (now level)) × (count ≤ 208) × (length (now high) ≡ 208) ⌝ }
-    ensures { λ _. ⌜ ((i : ℕ) → i < count → at (now (high .exit)) i ≡ samplePart (at (now (level .entry)) i)) ⌝ }
-    ensures { λ _. ⌜ length (now (high .exit)) ≡ 208 ⌝ }
-{
-    let mut i = 0;
-    while i < count {
-        high[i] = narrow(level[i] >> 8);
-        i += 1;
     }
 }
 
@@ -176,9 +145,8 @@ fn all_sums(
     out: &mut [i32; 64],
 )
     requires { ⌜ (pairs ≤ 41) × (a + far + 64 ≤ 208) × (b + far + 2 * pairs + 60 ≤ 208) × (length (now out) ≡ 64) ⌝ }
-    requires { ⌜ ((p k j : ℕ) → p < 4 → k ≤ pairs → j < 16 → natAbs (pairSum (now rows) (now words) (a + shift far p) (b + shift far p) k j) ≤ 2 ^ 30) ⌝ }
-    requires { ⌜ ((p k j : ℕ) → p < 4 → k < pairs → j < 16 → natAbs (pairProduct (now rows) (now words) (placeOf (a + shift far p) (b + shift far p) k) k j) ≤ 2 ^ 30) ⌝ }
-    ensures { λ _. ⌜ ((p j : ℕ) → p < 4 → j < 16 → at (now (out .exit)) (16 * p + j) ≡ pairSum (now (rows .entry)) (now (words .entry)) (a + shift far p) (b + shift far p) pairs j) ⌝ }
+    requires { ⌜ Small (now rows) (now words) a b far pairs (2 ^ 30) ⌝ }
+    ensures { λ _. ⌜ ((p j : ℕ) → p < 4 → j < 16 → at (now (out .exit)) (16 * p + j) ≡ lineSum (now (rows .entry)) (now (words .entry)) a b far pairs p j) ⌝ }
     ensures { λ _. ⌜ length (now (out .exit)) ≡ 64 ⌝ }
 {
     let mut p = 0;
@@ -238,7 +206,7 @@ fn round_samples(sums: &mut [i32; 64])
 }
 
 // Writes the words from place `place` on.
-fn write_words(words: &[i32; 64], store: &mut [i32], place: usize)
+pub(crate) fn write_words(words: &[i32; 64], store: &mut [i32], place: usize)
     requires { ⌜ place + 64 ≤ length (now store) ⌝ }
     ensures { λ _. ⌜ now (store .exit) ≡ overwrite (now (store .entry)) place (tabulate 64 (at (now (words .entry)))) ⌝ }
 {
@@ -249,9 +217,49 @@ fn write_words(words: &[i32; 64], store: &mut [i32], place: usize)
     }
 }
 
+// Sixty-four words, from sums over words in two parts: in place of the upper ones.
+pub(crate) fn part_words(
+    rows: &[i16; 1312],
+    pairs: usize,
+    a: usize,
+    b: usize,
+    far: usize,
+    high: &[i16; 208],
+    low: &[i16; 208],
+    upper: &mut [i32; 64],
+    lower: &mut [i32; 64],
+)
+    requires { ⌜ (pairs ≤ 41) × (a + far + 64 ≤ 208) × (b + far + 2 * pairs + 60 ≤ 208) × (length (now upper) ≡ 64) × (length (now lower) ≡ 64) ⌝ }
+    requires { ⌜ Small (now rows) (now high) a b far pairs (2 ^ 26) × Small (now rows) (now low) a b far pairs (2 ^ 30) ⌝ }
+    ensures { λ _. ⌜ ((p j : ℕ) → p < 4 → j < 16 → at (now (upper .exit)) (16 * p + j) ≡ near (pos 65536 *ℤ lineSum (now (rows .entry)) (now (high .entry)) a b far pairs p j +ℤ lineSum (now (rows .entry)) (now (low .entry)) a b far pairs p j) 16384) ⌝ }
+    ensures { λ _. ⌜ (length (now (upper .exit)) ≡ 64) × (length (now (lower .exit)) ≡ 64) ⌝ }
+{
+    all_sums(high, rows, pairs, a, b, far, upper);
+    all_sums(low, rows, pairs, a, b, far, lower);
+    round_parts(upper, lower);
+}
+
+// The same from words in one part, which are samples × 256.
+pub(crate) fn sample_words(
+    rows: &[i16; 1312],
+    pairs: usize,
+    a: usize,
+    b: usize,
+    far: usize,
+    high: &[i16; 208],
+    upper: &mut [i32; 64],
+)
+    requires { ⌜ (pairs ≤ 41) × (a + far + 64 ≤ 208) × (b + far + 2 * pairs + 60 ≤ 208) × (length (now upper) ≡ 64) × Small (now rows) (now high) a b far pairs (2 ^ 30) ⌝ }
+    ensures { λ _. ⌜ ((p j : ℕ) → p < 4 → j < 16 → at (now (upper .exit)) (16 * p + j) ≡ near (pos 256 *ℤ lineSum (now (rows .entry)) (now (high .entry)) a b far pairs p j) 16384) ⌝ }
+    ensures { λ _. ⌜ length (now (upper .exit)) ≡ 64 ⌝ }
+{
+    all_sums(high, rows, pairs, a, b, far, upper);
+    round_samples(upper);
+}
+
 // Writes words n to n + 63 of the level above the `words` words from place `start` on, where all of it lies inside the level. The caller lends the
 // places of parts and sums, which are not cleared each time.
-fn part_block(
+pub(crate) fn part_block(
     taps: &[i32],
     rows: &[i16; 1312],
     high: &mut [i16; 208],
@@ -264,7 +272,7 @@ fn part_block(
     n: usize,
 )
     requires { ⌜ (1 ≤ length (now taps)) × (length (now taps) ≤ 41) × (tapSum (now taps) ≤ 32768) × (at (now taps) 0 <ℤ pos 32768) × Rows (now taps) (now rows) ⌝ }
-    requires { ⌜ (length (now taps) ≤ 2 * n + 1) × (2 * n + length (now taps) + 134 ≤ words) × (start + words + n + 64 ≤ length (now store)) ⌝ }
+    requires { ⌜ (length (now taps) ≤ 2 * n + 1) × (2 * n + length (now taps) + 135 ≤ words) × (start + words + n + 64 ≤ length (now store)) ⌝ }
     requires { ⌜ (length (now high) ≡ 208) × (length (now low) ≡ 208) × (length (now upper) ≡ 64) × (length (now lower) ≡ 64) ⌝ }
     requires { ⌜ ((k : ℕ) → natAbs (at (part (now store) start words) k) ≤ 2 ^ 26) ⌝ }
     ensures { λ _. ⌜ now (store .exit) ≡ overwrite (now (store .entry)) (start + words + n) (part (nextLevel (now (taps .entry)) (part (now (store .entry)) start words)) n 64) ⌝ }
@@ -275,14 +283,12 @@ fn part_block(
     let place = next + n;
     let first = start + 2 * n + 1 - pairs;
     write_parts(&store[first..next], (2 * pairs + 133) / 8 * 8, high, low);
-    all_sums(high, rows, pairs, 0, 2, 64, upper);
-    all_sums(low, rows, pairs, 0, 2, 64, lower);
-    round_parts(upper, lower);
+    part_words(rows, pairs, 0, 2, 64, high, low, upper, lower);
     write_words(upper, store, place);
 }
 
 // The same where all words of the level are samples × 256.
-fn sample_block(
+pub(crate) fn sample_block(
     taps: &[i32],
     rows: &[i16; 1312],
     high: &mut [i16; 208],
@@ -293,7 +299,7 @@ fn sample_block(
     n: usize,
 )
     requires { ⌜ (1 ≤ length (now taps)) × (length (now taps) ≤ 41) × (tapSum (now taps) ≤ 32768) × (at (now taps) 0 <ℤ pos 32768) × Rows (now taps) (now rows) ⌝ }
-    requires { ⌜ (length (now taps) ≤ 2 * n + 1) × (2 * n + length (now taps) + 134 ≤ words) × (start + words + n + 64 ≤ length (now store)) ⌝ }
+    requires { ⌜ (length (now taps) ≤ 2 * n + 1) × (2 * n + length (now taps) + 135 ≤ words) × (start + words + n + 64 ≤ length (now store)) ⌝ }
     requires { ⌜ (length (now high) ≡ 208) × (length (now upper) ≡ 64) × Samples (part (now store) start words) ⌝ }
     ensures { λ _. ⌜ now (store .exit) ≡ overwrite (now (store .entry)) (start + words + n) (part (nextLevel (now (taps .entry)) (part (now (store .entry)) start words)) n 64) ⌝ }
     ensures { λ _. ⌜ (length (now (high .exit)) ≡ 208) × (length (now (upper .exit)) ≡ 64) ⌝ }
@@ -303,35 +309,6 @@ fn sample_block(
     let place = next + n;
     let first = start + 2 * n + 1 - pairs;
     write_samples(&store[first..next], (2 * pairs + 133) / 8 * 8, high);
-    all_sums(high, rows, pairs, 0, 2, 64, upper);
-    round_samples(upper);
+    sample_words(rows, pairs, 0, 2, 64, high, upper);
     write_words(upper, store, place);
-}
-
-// The one or the other.
-pub(crate) fn write_block(
-    taps: &[i32],
-    rows: &[i16; 1312],
-    high: &mut [i16; 208],
-    low: &mut [i16; 208],
-    upper: &mut [i32; 64],
-    lower: &mut [i32; 64],
-    store: &mut [i32],
-    start: usize,
-    words: usize,
-    n: usize,
-    samples: bool,
-)
-    requires { ⌜ (1 ≤ length (now taps)) × (length (now taps) ≤ 41) × (tapSum (now taps) ≤ 32768) × (at (now taps) 0 <ℤ pos 32768) × Rows (now taps) (now rows) ⌝ }
-    requires { ⌜ (length (now taps) ≤ 2 * n + 1) × (2 * n + length (now taps) + 134 ≤ words) × (start + words + n + 64 ≤ length (now store)) ⌝ }
-    requires { ⌜ (length (now high) ≡ 208) × (length (now low) ≡ 208) × (length (now upper) ≡ 64) × (length (now lower) ≡ 64) ⌝ }
-    requires { ⌜ ((k : ℕ) → natAbs (at (part (now store) start words) k) ≤ 2 ^ 26) × (samples ≡ true → Samples (part (now store) start words)) ⌝ }
-    ensures { λ _. ⌜ now (store .exit) ≡ overwrite (now (store .entry)) (start + words + n) (part (nextLevel (now (taps .entry)) (part (now (store .entry)) start words)) n 64) ⌝ }
-    ensures { λ _. ⌜ (length (now (high .exit)) ≡ 208) × (length (now (low .exit)) ≡ 208) × (length (now (upper .exit)) ≡ 64) × (length (now (lower .exit)) ≡ 64) ⌝ }
-{
-    if samples {
-        sample_block(taps, rows, high, upper, store, start, words, n);
-        return;
-    }
-    part_block(taps, rows, high, low, upper, lower, store, start, words, n);
 }

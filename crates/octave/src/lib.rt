@@ -8,11 +8,14 @@ ghost use Rattle.arith.specs.Lists.{at, wordAt, part, overwrite};
 ghost use Rattle.arith.specs.Sum.{sumAround};
 ghost use Rattle.book.specs.Check.{tapSum};
 ghost use Rattle.octave.specs.Octave.{halfLength, levelWord, nextLevel};
-use crate::groups::write_block;
-use crate::groups::write_rows;
+use crate::blocks::make_rows;
+use crate::blocks::write_block;
 use crate::samples::only_samples;
 
+mod parts; // words in 16-bit parts
 mod groups; // sixty-four words of a level at a time
+mod half_band; // the same where every second tap is 0
+mod blocks; // the one way or the other
 mod samples; // whether all words are samples × 256
 
 // Half of a length, rounded up.
@@ -89,7 +92,7 @@ pub fn next_level(taps: &[i32], store: &mut [i32], start: usize, words: usize)
     let next = start + words;
     let half = half_length(words);
     let mut rows = [0i16; 1312];
-    write_rows(taps, &mut rows);
+    let band = make_rows(taps, &mut rows);
     let samples = only_samples(&store[start..next]);
     let mut high = [0i16; 208];
     let mut low = [0i16; 208];
@@ -97,7 +100,7 @@ pub fn next_level(taps: &[i32], store: &mut [i32], start: usize, words: usize)
     let mut lower = [0i32; 64];
     let mut n = 0;
     while n < half {
-        if taps[0] < 32768 && taps.len() <= 2 * n + 1 && 2 * n + taps.len() + 134 <= words {
+        if taps[0] < 32768 && taps.len() <= 2 * n + 1 && 2 * n + taps.len() + 135 <= words {
             write_block(
                 taps,
                 &rows,
@@ -109,6 +112,7 @@ pub fn next_level(taps: &[i32], store: &mut [i32], start: usize, words: usize)
                 start,
                 words,
                 n,
+                band,
                 samples,
             );
             n += 64;

@@ -24,13 +24,13 @@ use Rattle.octave.proofs.next_level.Statement.{statement}
 use Rattle.octave.proofs.next_level.Tie as tie
 
 abbrev Inv-loop : tie.InvT-loop
-Inv-loop taps store₀ start words next half rows samples high₀ low₀ upper₀ lower₀ n₀ store high low upper lower n =
+Inv-loop taps store₀ start words next half rows band samples high₀ low₀ upper₀ lower₀ n₀ store high low upper lower n =
     (n ≤ half)
     × (store ≡ paste store₀ next (nextLevel taps (part store₀ start words)) n)
     × ((length high ≡ 208) × (length low ≡ 208) × (length upper ≡ 64) × (length lower ≡ 64))
 
 abbrev μ-loop : tie.MeasureT-loop
-μ-loop taps store₀ start words next half rows samples high₀ low₀ upper₀ lower₀ n₀ store high low upper lower n = half - n
+μ-loop taps store₀ start words next half rows band samples high₀ low₀ upper₀ lower₀ n₀ store high low upper lower n = half - n
 
 module _ (s : tie.Start Inv-loop μ-loop) where
   abbrev taps : List ℤ
@@ -89,7 +89,7 @@ module _ (t : tie.Then3 Inv-loop μ-loop) where
   abbrev w : tie.At-loop Inv-loop μ-loop
   w = t .before .before .before .before .before
 
-  block-words : 2 * n w + length (taps (s w)) + 134 ≤ s w .args .words
+  block-words : 2 * n w + length (taps (s w)) + 135 ≤ s w .args .words
   block-words = leb-true _ _ (t .if3 .taken)
 
   centre-narrow : at (taps (s w)) 0 <ℤ pos 32768
@@ -136,8 +136,8 @@ add-next c = omega arith
 half-length-requires : tie.Need-half-length-requires Inv-loop μ-loop
 half-length-requires c κs = search needs
 
-write-rows-requires : tie.Need-write-rows-requires Inv-loop μ-loop
-write-rows-requires c κs = let s = c .before .before in (s .pre .0 .0, s .pre .0 .1, s .pre .0 .2, refl)
+make-rows-requires : tie.Need-make-rows-requires Inv-loop μ-loop
+make-rows-requires c κs = let s = c .before .before in (s .pre .0 .0, s .pre .0 .1, s .pre .0 .2, refl)
 
 mul-only-samples : tie.Need-mul-only-samples Inv-loop μ-loop
 mul-only-samples c = omega arith
@@ -182,7 +182,7 @@ write-block-requires c κs =
     let t = c .before .before .before .before .before .before in
     let a = w t in
     let s = s a in (
-      (s .pre .0 .0, s .pre .0 .1, s .pre .0 .2, centre-narrow t, a .before .before .before .before .write-rows .ensures),
+      (s .pre .0 .0, s .pre .0 .1, s .pre .0 .2, centre-narrow t, a .before .before .before .before .make-rows .ensures),
       (
         (leb-true _ _ (t .before .if2 .taken), block-words t, omega (arith, block-half t, same-length-now a)),
         (a .loop .inv .2, (λ k. rw (level-now a) (s .pre .1 k), λ e. rw (level-now a) (rw (lent s) at (a .before .only-samples .ensures e)))),
@@ -260,7 +260,7 @@ next-level-spec =
     μ-loop
     add-next
     half-length-requires
-    write-rows-requires
+    make-rows-requires
     mul-only-samples
     sub-only-samples
     part-only-samples-start

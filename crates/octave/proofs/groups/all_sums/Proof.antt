@@ -9,12 +9,12 @@ use borrow.Author.Needs.{needs}
 use lib.IntN.{ℤ}
 use lib.ListN.{length}
 use Rattle.arith.specs.Lists.{at}
-use Rattle.octave.specs.Inner.{pairSum, shift}
+use Rattle.octave.specs.Inner.{lineSum}
 use Rattle.octave.proofs.groups.all_sums.Statement.{statement}
 use Rattle.octave.proofs.groups.all_sums.Tie as tie
 
 abbrev Inv-loop : tie.InvT-loop
-Inv-loop words rows pairs a b far out₀ p₀ out p = (p ≤ 4) × (length out ≡ 64) × ((q j : ℕ) → q < p → j < 16 → at out (16 * q + j) ≡ pairSum rows words (a + shift far q) (b + shift far q) pairs j)
+Inv-loop words rows pairs a b far out₀ p₀ out p = (p ≤ 4) × (length out ≡ 64) × ((q j : ℕ) → q < p → j < 16 → at out (16 * q + j) ≡ lineSum rows words a b far pairs q j)
 
 abbrev μ-loop : tie.MeasureT-loop
 μ-loop words rows pairs a b far out₀ p₀ out p = 4 - p
@@ -44,7 +44,7 @@ module _ (c : tie.After-pair-sums Inv-loop μ-loop) where
   out = c .pair-sums .last .1 .1 .1 .1 .1 .0
 
   abbrev line : ℕ → ℕ → ℤ
-  line q j = pairSum (s i .args .rows .now) (s i .args .words .now) (s i .args .a + shift (s i .args .far) q) (s i .args .b + shift (s i .args .far) q) (s i .args .pairs) j
+  line q j = lineSum (s i .args .rows .now) (s i .args .words .now) (s i .args .a) (s i .args .b) (s i .args .far) (s i .args .pairs) q j
 
   lines : (q j : ℕ) → q < p i + 1 → j < 16 → at out (16 * q + j) ≡ line q j
   lines q j l m = go (ℕ-discrete q (p i))

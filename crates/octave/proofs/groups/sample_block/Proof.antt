@@ -1,21 +1,18 @@
--- `octave::groups::sample_block` meets its contract: the sums of samples are those of sixty-four words, and rounding them gives the words. Assumes nothing.
-use mathlib.Core.Path.{_≡_, refl, ap, ap₂, subst, _∙_}
+-- `octave::groups::sample_block` meets its contract: the sums are those of sixty-four words. Assumes nothing.
+use mathlib.Core.Path.{_≡_, sym, ap, _∙_}
 use mathlib.Core.List.{List}
-use Prim.Native.Nat.{ℕ, suc, _+_, _-_, _*_, _/_, _%_, _^_, _≤_, _<_}
-use native.Mathlib.Nat.{le-refl, le-trans}
-use native.Mathlib.Decide.{decLe}
+use Prim.Native.Nat.{ℕ, _+_, _-_, _*_, _/_, _%_, _^_, _≤_, _<_}
 use native.Mathlib.Omega.{arith}
 use borrow.Author.Needs.{needs}
-use lib.Dec.{lit≤}
-use lib.IntN.{ℤ, pos, natAbs, _+ℤ_, _*ℤ_}
+use lib.IntN.{ℤ, natAbs}
 use lib.ListN.{length}
 use Rattle.arith.specs.Floor.{near}
 use Rattle.arith.specs.Lists.{at, part, overwrite}
-use Rattle.arith.proofs.Lists.{at-outside, part-length}
-use Rattle.octave.specs.Octave.{halfLength}
-use Rattle.octave.specs.Inner.{upperPart, lowerPart, samplePart, pairProduct, pairSum, placeOf, shift}
+use Rattle.arith.proofs.Lists.{part-length}
+use Rattle.octave.specs.Octave.{halfLength, levelSum}
 use Rattle.octave.proofs.Octave.{halfLength-holds}
-use Rattle.octave.proofs.PairSums.{sample-small, lent-at, lane-small, lane-product-small, sample-lanes, block-words}
+use Rattle.octave.specs.Inner.{samplePart}
+use Rattle.octave.proofs.PairSums.{sample-small, lent-at, all-small, sample-lines, block-words}
 use Rattle.octave.proofs.groups.sample_block.Statement.{statement}
 use Rattle.octave.proofs.groups.sample_block.Tie as tie
 
@@ -45,7 +42,7 @@ module _ (s : tie.Start) where
   length-lent = part-length store first behind (omega arith)
 
   lent : (i : ℕ) → i < behind → at (part store first behind) i ≡ at level (2 * n + 1 - length taps + i)
-  lent = lent-at store (s .args .start) (s .args .words) n (length taps) (s .pre .1 .0 .0)
+  lent = lent-at store (s .args .start) (s .args .words) n (length taps) (omega arith)
 
   block-inside : n + 64 ≤ halfLength (length level)
   block-inside =
@@ -63,26 +60,22 @@ module _ (w : tie.After-write-samples) where
   staged : (i : ℕ) → i < 2 * length (taps s) + 126 → at highs i ≡ samplePart (at (level s) (2 * n s + 1 - length (taps s) + i))
   staged i l = w .write-samples .ensures .0 i (omega arith) ∙ ap samplePart (lent s i (omega arith))
 
-  module _ (p j : ℕ) (lp : p < 4) (lj : j < 16) where
-    lines-small : (k : ℕ) → k ≤ length (taps s) → natAbs (pairSum (rows s) highs (0 + shift 64 p) (2 + shift 64 p) k j) ≤ 2 ^ 30
-    lines-small = lane-small (taps s) (s .pre .0 .2) (s .pre .0 .3) (s .pre .0 .0) (rows s) (s .pre .0 .4) (level s) (n s) (s .pre .1 .0 .0) highs samplePart staged p j lp lj 32768 (λ k. sample-small (at (level s) k))
-
-    products-small : (k : ℕ) → k < length (taps s) → natAbs (pairProduct (rows s) highs (placeOf (0 + shift 64 p) (2 + shift 64 p) k) k j) ≤ 2 ^ 30
-    products-small = lane-product-small (taps s) (s .pre .0 .2) (s .pre .0 .3) (s .pre .0 .0) (rows s) (s .pre .0 .4) (level s) (n s) (s .pre .1 .0 .0) highs samplePart staged p j lp lj 32768 (λ k. sample-small (at (level s) k))
-
--- the sums
-module _ (u : tie.After-all-sums) where
+-- the words
+module _ (r : tie.After-sample-words) where
   abbrev w : tie.After-write-samples
-  w = u .before .before .before
+  w = r .before .before .before
 
-  sums-small : (t : ℕ) → t < 64 → natAbs (at (u .all-sums .last .1 .1 .1 .1 .1 .1 .0) t) ≤ 2 ^ 30
-  sums-small t l =
-      let p = t / 16 in
-      let j = t % 16 in
+  words-are : let s = s w in (i : ℕ) → i < 64 → at (r .sample-words .last .1 .1 .1 .1 .1 .1 .0) i ≡ near (levelSum (taps s) (level s) (n s + i)) 16384
+  words-are i l =
+      let s = s w in
+      let p = i / 16 in
+      let j = i % 16 in
       let lp : p < 4 = omega arith in
       let lj : j < 16 = omega arith in
-      let e : 16 * p + j ≡ t = omega arith in
-      subst (λ i. natAbs (at (u .all-sums .last .1 .1 .1 .1 .1 .1 .0) i) ≤ 2 ^ 30) e (rw (u .all-sums .ensures .0 p j lp lj) (lines-small w p j lp lj (length (taps (s w))) (le-refl (length (taps (s w))))))
+      let e : 16 * p + j ≡ i = omega arith in
+      ap (at (r .sample-words .last .1 .1 .1 .1 .1 .1 .0)) (sym e)
+      ∙ r .sample-words .ensures .0 p j lp lj
+      ∙ ap (λ z. near z 16384) (sample-lines (taps s) (s .pre .0 .2) (s .pre .0 .3) (s .pre .0 .0) (rows s) (s .pre .0 .4) (level s) (n s) (s .pre .1 .0 .0) p j lp lj (highs w) (s .pre .1 .1 .2) (staged w) ∙ ap (λ z. levelSum (taps s) (level s) (n s + z)) e)
 
 add-next : tie.Need-add-next
 add-next c = search needs
@@ -127,14 +120,10 @@ write-samples-requires : tie.Need-write-samples-requires
 write-samples-requires c κs = let s = c .before .before .before in
     (omega (arith, length-lent s), omega arith, s .pre .1 .1 .0)
 
-all-sums-requires : tie.Need-all-sums-requires
-all-sums-requires c κs = let w = c .before .before in (
-  (s w .pre .0 .1, omega arith, omega arith, s w .pre .1 .1 .1),
-  (λ p k j lp l lj. lines-small w p j lp lj k l, λ p k j lp l lj. products-small w p j lp lj k l),
-)
-
-round-samples-requires : tie.Need-round-samples-requires
-round-samples-requires c κs = let u = c .before in (sums-small u, u .all-sums .ensures .1)
+sample-words-requires : tie.Need-sample-words-requires
+sample-words-requires c κs = let w = c .before .before in
+    let s = s w in
+    (s .pre .0 .1, omega arith, omega arith, s .pre .1 .1 .1, all-small (taps s) (s .pre .0 .2) (s .pre .0 .3) (s .pre .0 .0) (rows s) (s .pre .0 .4) (level s) (n s) (s .pre .1 .0 .0) (highs w) samplePart (staged w) 32768 (λ k. sample-small (at (level s) k)))
 
 write-words-requires : tie.Need-write-words-requires
 write-words-requires c κs = omega arith
@@ -144,17 +133,11 @@ same-length c = search needs
 
 returns : tie.Need-returns
 returns c = let r = c .before .before .before .before in
-    let u = r .before .before in
-    let w = w u in
+    let w = w r in
     let s = s w in (
       c .before .write-words .ensures
-          ∙ ap (overwrite (store s) (s .args .start + s .args .words + n s))
-          (block-words (taps s) (level s) (r .round-samples .last .0) (n s) (block-inside s)
-          (λ p j lp lj. r .round-samples .ensures .0 (16 * p + j) (omega arith)
-          ∙ ap (λ z. near z 16384)
-          (ap (λ x. pos 256 *ℤ x) (u .all-sums .ensures .0 p j lp lj)
-          ∙ sample-lanes (taps s) (s .pre .0 .2) (s .pre .0 .3) (s .pre .0 .0) (rows s) (s .pre .0 .4) (level s) (n s) (s .pre .1 .0 .0) p j lp lj (highs w) (s .pre .1 .1 .2) (staged w)))),
-      (w .write-samples .ensures .1, r .round-samples .ensures .1),
+          ∙ ap (overwrite (store s) (s .args .start + s .args .words + n s)) (block-words (taps s) (level s) (r .sample-words .last .1 .1 .1 .1 .1 .1 .0) (n s) (λ i. i) (block-inside s) (words-are r)),
+      (w .write-samples .ensures .1, r .sample-words .ensures .1),
     )
 
 pub sample-block-spec : {M : Type 1} → statement M
@@ -175,8 +158,7 @@ sample-block-spec =
     add-write-samples
     mul-write-samples-3
     write-samples-requires
-    all-sums-requires
-    round-samples-requires
+    sample-words-requires
     write-words-requires
     same-length
     returns)
