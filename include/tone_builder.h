@@ -15,7 +15,7 @@
  *   tone_build(book, book_words, samples, sample_count, top, store, words);
  *
  * tone_numbers.h has the promise that every call keeps, the rules on pointers,
- * the numbers and the limits. On x86-64 a call takes less than 4 KB of stack
+ * the numbers and the limits. On x86-64 a call takes less than 5 KB of stack
  * (measured, not proved).
  */
 
