@@ -1,6 +1,6 @@
-// Sixty-four words of a level by whichever way its taps and words allow.
+// Sixty-four words of a level, by the way that its taps and words allow.
 
-ghost use mathlib.Core.Bool.{true, cond};
+ghost use mathlib.Core.Bool.{true};
 ghost use mathlib.Core.Path.{_≡_};
 ghost use Prim.Native.Nat.{ℕ, _+_, _*_, _^_, _≤_, _<_};
 ghost use lib.IntN.{pos, natAbs};
@@ -9,11 +9,11 @@ ghost use lib.Signed.{_<ℤ_};
 ghost use Rattle.arith.specs.Lists.{at, part, overwrite};
 ghost use Rattle.book.specs.Check.{tapSum};
 ghost use Rattle.octave.specs.Octave.{nextLevel};
-ghost use Rattle.octave.specs.Inner.{Rows, HalfBand, BandRows, Samples, Ready};
+ghost use Rattle.octave.specs.Inner.{Samples, Ready};
 use crate::groups;
 use crate::half_band;
 
-// Whether the level's taps go the half-band way, which pays from seven on, and their rows.
+// Writes the rows of the taps, and tells their way: true for half-band taps. Fewer than seven go the other way, which is as fast for them.
 pub(crate) fn make_rows(taps: &[i32], rows: &mut [i16; 1312]) -> bool
     requires { ⌜ (1 ≤ length (now taps)) × (length (now taps) ≤ 41) × (tapSum (now taps) ≤ 32768) × (length (now rows) ≡ 1312) ⌝ }
     ensures { λ r. ⌜ Ready r (now (taps .entry)) (now (rows .exit)) ⌝ }

@@ -206,7 +206,7 @@ fn round_samples(sums: &mut [i32; 64])
 }
 
 // Writes the words from place `place` on.
-pub(crate) fn write_words(words: &[i32; 64], store: &mut [i32], place: usize)
+fn write_words(words: &[i32; 64], store: &mut [i32], place: usize)
     requires { ⌜ place + 64 ≤ length (now store) ⌝ }
     ensures { λ _. ⌜ now (store .exit) ≡ overwrite (now (store .entry)) place (tabulate 64 (at (now (words .entry)))) ⌝ }
 {
@@ -257,8 +257,7 @@ pub(crate) fn sample_words(
     round_samples(upper);
 }
 
-// Writes words n to n + 63 of the level above the `words` words from place `start` on, where all of it lies inside the level. The caller lends the
-// places of parts and sums, which are not cleared each time.
+// Writes words n to n + 63 of the level above, from words in two parts.
 pub(crate) fn part_block(
     taps: &[i32],
     rows: &[i16; 1312],

@@ -1,5 +1,6 @@
-// Taps of a half-band filter: all at an even distance from the centre are 0, so that the words between take no part but for the centre itself. Every
-// second word stands by itself, and each pair of taps serves sixteen words of the level above of which every second lies between.
+// Half-band taps: those at an even distance from the centre are 0, so that half as many pairs do, and the centre by itself. Every second word stands
+// in front, and the words between 104 places on. Neighbours there lie two words apart in the level, so that sixteen sums are those of every second
+// word of the level above.
 
 ghost use mathlib.Core.Bool.{true};
 ghost use mathlib.Core.Path.{_≡_};
@@ -75,7 +76,7 @@ fn mix_words(words: &[i32; 64], store: &mut [i32], place: usize)
     }
 }
 
-// Writes words n to n + 63 of the level above, as `groups::part_block` does.
+// Writes words n to n + 63 of the level above, from words in two parts.
 pub(crate) fn part_block(
     taps: &[i32],
     rows: &[i16; 1312],

@@ -15,7 +15,7 @@ use crate::samples::only_samples;
 mod parts; // words in 16-bit parts
 mod groups; // sixty-four words of a level at a time
 mod half_band; // the same where every second tap is 0
-mod blocks; // the one way or the other
+mod blocks; // the way that taps and words allow
 mod samples; // whether all words are samples × 256
 
 // Half of a length, rounded up.
@@ -82,7 +82,7 @@ fn level_word(level: &[i32], taps: &[i32], n: usize) -> i32
     arith::near(sum_around(level, taps, 2 * n), 8192) as i32
 }
 
-// Writes the level above the `words` words from place `start` on behind them: in groups inside, and word by word near its ends. A centre tap of 32768
+// Writes the level above the `words` words from place `start` on behind them: in blocks inside, and word by word near its ends. A centre tap of 32768
 // has no 16-bit number, so that its level is written word by word too.
 pub fn next_level(taps: &[i32], store: &mut [i32], start: usize, words: usize)
     requires { ⌜ (1 ≤ length (now taps)) × (length (now taps) ≤ 41) × (tapSum (now taps) ≤ 32768) × (start + words + halfLength words ≤ length (now store)) ⌝ }

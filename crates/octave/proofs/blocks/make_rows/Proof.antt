@@ -1,6 +1,4 @@
 -- `octave::blocks::make_rows` meets its contract: either way writes its rows. Assumes nothing.
-use mathlib.Core.Path.{_≡_}
-use Prim.Native.Nat.{_≤_}
 use native.Mathlib.Omega.{arith}
 use borrow.Author.Tests.{not-false}
 use Rattle.octave.proofs.blocks.make_rows.Statement.{statement}

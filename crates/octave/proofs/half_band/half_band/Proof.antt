@@ -1,24 +1,23 @@
 -- `octave::half_band::half_band` meets its contract. The loop's invariant: the taps passed at an even distance are 0. Assumes nothing.
-use mathlib.Core.Bool.{true}
 use mathlib.Core.Path.{_≡_}
 use Prim.Native.Nat.{ℕ, suc, _+_, _-_, _*_, _%_, _≤_, _<_}
-use native.Mathlib.Decide.{decLe, ℕ-discrete}
+use native.Mathlib.Decide.{decLe}
 use native.Mathlib.Omega.{arith}
-use lib.IntN.{ℤ, pos}
+use lib.IntN.{pos}
 use lib.ListN.{length}
 use mir.Syntax.{w32}
 use mir.Val.{SFits}
 use Rattle.arith.specs.Lists.{at}
-use Rattle.arith.proofs.Bits.{reads, bits-zero}
+use Rattle.arith.proofs.Bits.{bits-zero}
 use Rattle.arith.proofs.Lists.{at-outside}
 use Rattle.octave.proofs.half_band.half_band.Statement.{statement}
 use Rattle.octave.proofs.half_band.half_band.Tie as tie
 
 abbrev Inv-loop : tie.InvT-loop
-Inv-loop taps k₀ k = (k ≤ length taps + 2) × (k % 2 ≡ 0) × ((e : ℕ) → 2 * e + 2 < k → at taps (2 * e + 2) ≡ pos 0)
+Inv-loop taps k₀ k = (k ≤ length taps + 4) × (k % 2 ≡ 0) × ((e : ℕ) → 2 * e + 2 < k → at taps (2 * e + 2) ≡ pos 0)
 
 abbrev μ-loop : tie.MeasureT-loop
-μ-loop taps k₀ k = length taps + 2 - k
+μ-loop taps k₀ k = length taps + 4 - k
 
 -- one tap more
 module _ (c : tie.Else1 Inv-loop μ-loop) where

@@ -1,5 +1,5 @@
 -- `octave::parts::sample_part` meets its contract: the shift is the floor. Assumes nothing.
-use mathlib.Core.Path.{_≡_, ap, _∙_}
+use mathlib.Core.Path.{ap, _∙_}
 use lib.IntN.{pos, negsuc}
 use lib.Signed.{shrZ}
 use mir.Syntax.{w16, w32}

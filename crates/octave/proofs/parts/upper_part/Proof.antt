@@ -1,8 +1,6 @@
 -- `octave::parts::upper_part` meets its contract: the shift is the floor. Assumes nothing.
-use mathlib.Core.Path.{_≡_}
-use Prim.Native.Nat.{_*_, _^_, _≤_}
 use native.Mathlib.Omega.{arith}
-use lib.IntN.{ℤ, pos, natAbs, _+ℤ_}
+use lib.IntN.{ℤ, pos, _+ℤ_}
 use lib.Signed.{shrZ}
 use mir.Syntax.{w16, w32}
 use mir.Val.{SFits}

@@ -1,11 +1,10 @@
 -- `octave::samples::only_samples` meets its contract. The loop's invariant: the words passed are samples. Assumes nothing.
-use mathlib.Core.Bool.{true}
-use mathlib.Core.Path.{_≡_, ap, _∙_}
+use mathlib.Core.Path.{_≡_}
 use Prim.Native.Nat.{ℕ, suc, _+_, _-_, _≤_, _<_}
 use native.Mathlib.Decide.{decLe}
 use native.Mathlib.Omega.{arith}
 use borrow.Author.Tests.{not-false}
-use lib.IntN.{ℤ, pos, _*ℤ_}
+use lib.IntN.{pos, _*ℤ_}
 use lib.ListN.{length}
 use Rattle.arith.specs.Lists.{at}
 use Rattle.arith.proofs.Lists.{at-outside}

@@ -1,7 +1,5 @@
 -- `octave::samples::samples_from` meets its contract. The loop's invariant: the bits hold those of each word passed. Assumes nothing.
-use mathlib.Core.Bool.{true}
-use mathlib.Core.Path.{_≡_, refl}
-use mathlib.Core.List.{List}
+use mathlib.Core.Path.{_≡_}
 use Prim.Native.Nat.{ℕ, _+_, _-_, _%_, _^_, _≤_, _<_}
 use native.Mathlib.Nat.{le-trans}
 use native.Mathlib.Decide.{ℕ-discrete}
@@ -9,15 +7,13 @@ use native.Mathlib.Omega.{arith}
 use borrow.Author.Tests.{eqb-true}
 use lib.Bits.{bitOr, or-lt}
 use lib.IntN.{ℤ, pos, _+ℤ_}
-use lib.ListN.{length}
-use lib.Signed.{_≤ℤ_, _<ℤ_}
 use mir.Syntax.{w32}
 use mir.Val.{SFits, ofZ, toZ}
 use mir.Facts.{fits-ofZ, toZ-pos}
 use Rattle.arith.specs.Lists.{at}
 use Rattle.arith.proofs.Bits.{reads}
 use Rattle.arith.proofs.Integers.{abs-triangle, abs-fits}
-use Rattle.arith.proofs.Linear.{lt-yes, lt-no, le-yes, le-no, linear}
+use Rattle.arith.proofs.Linear.{lt-no, le-no}
 use Rattle.octave.proofs.SampleBits.{or-holds, or-holds-last, or-clear, or-clear-last, bits-low, sample-is}
 use Rattle.octave.proofs.samples.samples_from.Statement.{statement}
 use Rattle.octave.proofs.samples.samples_from.Tie as tie
