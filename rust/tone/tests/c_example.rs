@@ -208,11 +208,13 @@ fn no_archive_holds_the_other_s_code() {
         let symbols = symbols(archive);
         symbols.iter().any(|(name, _)| name.contains(part))
     };
-    assert!(holds("tone_builder", "book::") && holds("tone", "player::"));
+    assert!(holds("tone_builder", "octave::") && holds("tone", "windows::"));
     for part in [
         "player::",
         "points::",
         "values::",
+        "rows::",
+        "dot_products::",
         "windows::",
         "control::",
         "marshal::",
