@@ -1,4 +1,3 @@
 pub mod Octave
 pub mod PairSums
-pub mod SampleBits
 pub mod BandSums

@@ -8,8 +8,9 @@ ghost use lib.ListN.{length};
 ghost use lib.Signed.{_<ℤ_};
 ghost use Rattle.arith.specs.Lists.{at, part, overwrite};
 ghost use Rattle.book.specs.Check.{tapSum};
+ghost use Rattle.pair_sums.specs.Pairs.{Samples};
 ghost use Rattle.octave.specs.Octave.{nextLevel};
-ghost use Rattle.octave.specs.Inner.{Samples, Ready};
+ghost use Rattle.octave.specs.Inner.{Ready};
 use crate::groups;
 use crate::half_band;
 

@@ -10,14 +10,15 @@ ghost use lib.ListN.{length};
 ghost use lib.Signed.{_<ℤ_};
 ghost use Rattle.arith.specs.Lists.{at, part, tabulate, overwrite};
 ghost use Rattle.book.specs.Check.{tapSum};
+ghost use Rattle.pair_sums.specs.Pairs.{Samples};
 ghost use Rattle.octave.specs.Octave.{nextLevel};
-ghost use Rattle.octave.specs.Inner.{HalfBand, oddTap, BandRows, Samples};
-use crate::groups::part_words;
-use crate::groups::sample_words;
-use crate::groups::write_row;
-use crate::parts::split_lower;
-use crate::parts::split_samples;
-use crate::parts::split_upper;
+ghost use Rattle.octave.specs.Inner.{HalfBand, oddTap, BandRows};
+use pair_sums::part_words;
+use pair_sums::parts::split_lower;
+use pair_sums::parts::split_samples;
+use pair_sums::parts::split_upper;
+use pair_sums::sample_words;
+use pair_sums::write_row;
 
 // Whether these are such taps.
 pub(crate) fn half_band(taps: &[i32]) -> bool

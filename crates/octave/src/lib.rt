@@ -10,13 +10,11 @@ ghost use Rattle.book.specs.Check.{tapSum};
 ghost use Rattle.octave.specs.Octave.{halfLength, levelWord, nextLevel};
 use crate::blocks::make_rows;
 use crate::blocks::write_block;
-use crate::samples::only_samples;
+use pair_sums::samples::only_samples;
 
-mod parts; // words in 16-bit parts
 mod groups; // sixty-four words of a level at a time
 mod half_band; // the same where every second tap is 0
 mod blocks; // the way that taps and words allow
-mod samples; // whether all words are samples × 256
 
 // Half of a length, rounded up.
 pub fn half_length(n: usize) -> usize

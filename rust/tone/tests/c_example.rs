@@ -208,7 +208,7 @@ fn no_archive_holds_the_other_s_code() {
         let symbols = symbols(archive);
         symbols.iter().any(|(name, _)| name.contains(part))
     };
-    assert!(holds("tone_builder", "octave::") && holds("tone", "windows::"));
+    assert!(holds("tone_builder", "pair_sums::") && holds("tone", "windows::"));
     for part in [
         "player::",
         "points::",
@@ -221,7 +221,7 @@ fn no_archive_holds_the_other_s_code() {
     ] {
         assert!(!holds("tone_builder", part), "{part}");
     }
-    for part in ["octave::", "levels::store"] {
+    for part in ["octave::", "pair_sums::", "levels::store"] {
         assert!(!holds("tone", part), "{part}");
     }
 }

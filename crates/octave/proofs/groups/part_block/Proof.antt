@@ -9,10 +9,11 @@ use lib.ListN.{length}
 use Rattle.arith.specs.Floor.{near}
 use Rattle.arith.specs.Lists.{at, part, overwrite}
 use Rattle.arith.proofs.Lists.{part-length}
+use Rattle.pair_sums.specs.Pairs.{upperPart, lowerPart}
+use Rattle.pair_sums.proofs.Pairs.{upper-small}
 use Rattle.octave.specs.Octave.{halfLength, levelSum}
 use Rattle.octave.proofs.Octave.{halfLength-holds}
-use Rattle.octave.specs.Inner.{upperPart, lowerPart}
-use Rattle.octave.proofs.PairSums.{upper-small, lower-small, lent-at, lent-small, all-small, part-lines, block-words}
+use Rattle.octave.proofs.PairSums.{lower-small, lent-at, lent-small, all-small, part-lines, block-words}
 use Rattle.octave.proofs.groups.part_block.Statement.{statement}
 use Rattle.octave.proofs.groups.part_block.Tie as tie
 

@@ -9,9 +9,9 @@ use lib.ListN.{length}
 use Rattle.arith.specs.Floor.{near}
 use Rattle.arith.specs.Lists.{at, part, overwrite}
 use Rattle.arith.proofs.Lists.{part-length}
+use Rattle.pair_sums.specs.Pairs.{samplePart}
 use Rattle.octave.specs.Octave.{halfLength, levelSum}
 use Rattle.octave.proofs.Octave.{halfLength-holds}
-use Rattle.octave.specs.Inner.{samplePart}
 use Rattle.octave.proofs.PairSums.{sample-small, lent-at, all-small, sample-lines, block-words}
 use Rattle.octave.proofs.groups.sample_block.Statement.{statement}
 use Rattle.octave.proofs.groups.sample_block.Tie as tie

@@ -9,9 +9,9 @@ use lib.ListN.{length}
 use Rattle.arith.specs.Floor.{near}
 use Rattle.arith.specs.Lists.{at, part, overwrite}
 use Rattle.arith.proofs.Lists.{part-length}
+use Rattle.pair_sums.specs.Pairs.{samplePart, shift}
 use Rattle.octave.specs.Octave.{halfLength, levelSum}
 use Rattle.octave.proofs.Octave.{halfLength-holds}
-use Rattle.octave.specs.Inner.{samplePart, shift}
 use Rattle.octave.proofs.PairSums.{sample-small, lent-at, block-words}
 use Rattle.octave.proofs.BandSums.{band-small, band-samples}
 use Rattle.octave.proofs.half_band.sample_block.Statement.{statement}
