@@ -208,6 +208,10 @@ module _ (h : List ℤ) (small : tapSum h ≤ 32768) (narrow : at h 0 <ℤ pos 3
         ap (at rows) (omega arith) ∙ w .1 ∙ limited (natAbs (pos (2 * (2 * k + 1) + 1) -ℤ pos (2 * Q))) ∙ ap (band-tap h) e₁,
       )
 
+  -- where the words of the centre's pair begin
+  abbrev pub centre-place : ℕ
+  centre-place = Q + 103
+
   abbrev word : ℕ → ℕ → ℕ → ℤ
   word p j = band-word h level n (shift 1 p + 2 * j)
 
@@ -216,7 +220,7 @@ module _ (h : List ℤ) (small : tapSum h ≤ 32768) (narrow : at h 0 <ℤ pos 3
 
   module _ (xs : List ℤ) (f : ℤ → ℤ) (staged : Staged f xs) where
     stand : (p j k : ℕ) → p < 4 → j < 16 → k < Q + 1
-        → (at xs (placeOf (Q + 103 + shift 1 p) (0 + shift 1 p) k + 2 * j) ≡ f (word p j (2 * k))) × (at xs (placeOf (Q + 103 + shift 1 p) (0 + shift 1 p) k + 2 * j + 1) ≡ f (word p j (2 * k + 1)))
+        → (at xs (placeOf (centre-place + shift 1 p) (0 + shift 1 p) k + 2 * j) ≡ f (word p j (2 * k))) × (at xs (placeOf (centre-place + shift 1 p) (0 + shift 1 p) k + 2 * j + 1) ≡ f (word p j (2 * k + 1)))
     unfolding placeOf band-word
     stand p j zero lp lj l =
         let m : ℕ = shift 1 p + 2 * j in
@@ -233,12 +237,12 @@ module _ (h : List ℤ) (small : tapSum h ≤ 32768) (narrow : at h 0 <ℤ pos 3
           ap (at xs) (omega arith) ∙ staged (m + (2 * k + 1)) (omega arith) .0 ∙ ap (λ i. f (at level i)) (omega arith) ∙ ap (λ c. f (word p j c)) e₁,
         )
 
-    all-lines : (p j : ℕ) → p < 4 → j < 16 → lineSum rows xs (Q + 103) 0 1 (Q + 1) p j ≡ sum (2 * (Q + 1)) (λ c. band-tap h c *ℤ f (word p j c))
-    all-lines = lines rows (Q + 1) (band-tap h) (band-total h some small) rows-hold xs (Q + 103) 0 1 (λ p j c. f (word p j c)) stand
+    all-lines : (p j : ℕ) → p < 4 → j < 16 → lineSum rows xs centre-place 0 1 (Q + 1) p j ≡ sum (2 * (Q + 1)) (λ c. band-tap h c *ℤ f (word p j c))
+    all-lines = lines rows (Q + 1) (band-tap h) (band-total h some small) rows-hold xs centre-place 0 1 (λ p j c. f (word p j c)) stand
 
-    pub band-small : (bound : ℕ) → ((k : ℕ) → natAbs (f (at level k)) ≤ bound) → Small rows xs (Q + 103) 0 1 (Q + 1) (32768 * bound)
+    pub band-small : (bound : ℕ) → ((k : ℕ) → natAbs (f (at level k)) ≤ bound) → Small rows xs centre-place 0 1 (Q + 1) (32768 * bound)
     unfolding band-word
-    band-small bound low = lines-small rows (Q + 1) (band-tap h) (band-total h some small) rows-hold xs (Q + 103) 0 1 (λ p j c. f (word p j c)) stand bound low-words
+    band-small bound low = lines-small rows (Q + 1) (band-tap h) (band-total h some small) rows-hold xs centre-place 0 1 (λ p j c. f (word p j c)) stand bound low-words
       where
         low-words : (p j c : ℕ) → natAbs (f (word p j c)) ≤ bound
         low-words p j zero = low (2 * (n + (shift 1 p + 2 * j)))
@@ -247,13 +251,13 @@ module _ (h : List ℤ) (small : tapSum h ≤ 32768) (narrow : at h 0 <ℤ pos 3
 
   module _ (p j : ℕ) (lp : p < 4) (lj : j < 16) where
     pub band-parts : (highs lows : List ℤ) → Staged upperPart highs → Staged lowerPart lows
-        → pos 65536 *ℤ lineSum rows highs (Q + 103) 0 1 (Q + 1) p j +ℤ lineSum rows lows (Q + 103) 0 1 (Q + 1) p j ≡ levelSum h level (n + (shift 1 p + 2 * j))
+        → pos 65536 *ℤ lineSum rows highs centre-place 0 1 (Q + 1) p j +ℤ lineSum rows lows centre-place 0 1 (Q + 1) p j ≡ levelSum h level (n + (shift 1 p + 2 * j))
     band-parts highs lows upper lower =
         ap₂ (λ x y. pos 65536 *ℤ x +ℤ y) (all-lines highs upperPart upper p j lp lj) (all-lines lows lowerPart lower p j lp lj)
         ∙ by-parts (2 * (Q + 1)) (band-tap h) (word p j)
         ∙ band-sum h some level n (shift 1 p + 2 * j) inside zeros
 
-    pub band-samples : (xs : List ℤ) → Samples level → Staged samplePart xs → pos 256 *ℤ lineSum rows xs (Q + 103) 0 1 (Q + 1) p j ≡ levelSum h level (n + (shift 1 p + 2 * j))
+    pub band-samples : (xs : List ℤ) → Samples level → Staged samplePart xs → pos 256 *ℤ lineSum rows xs centre-place 0 1 (Q + 1) p j ≡ levelSum h level (n + (shift 1 p + 2 * j))
     unfolding band-word
     band-samples xs samples staged =
         ap (λ x. pos 256 *ℤ x) (all-lines xs samplePart staged p j lp lj)

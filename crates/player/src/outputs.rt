@@ -13,6 +13,7 @@ ghost use Rattle.player.specs.Inner.{lineOf};
 use crate::PlayAnswer;
 use crate::Voice;
 use control::Control;
+use control::rate::octave_level;
 use decimation::write_outputs;
 use multiplies::block_multiplies;
 use points::next_points;
@@ -109,7 +110,7 @@ fn fill_by(
 
 // Whether a block may read level 0, as far as its voice tells: without it the rows' mark is not looked for.
 fn may_read_samples(c: Control) -> bool {
-    c.fade.from == 0 || c.fade.to == 0 || c.rate < 268435456 || 0 < c.glide.count
+    c.fade.from == 0 || c.fade.to == 0 || octave_level(c.rate) == 0 || 0 < c.glide.count
 }
 
 // Fills the output slice. Most books' rows have room in the smaller table, which takes less time to clear.
