@@ -95,15 +95,17 @@ module _ (b : List ℤ) (a : Accepted b) {table : List ℤ} (t : RowsOf b table)
 
     module _ (window : List ℤ) (rows firsts offsets : List ℕ) where
       -- the window has the words from word last + N/2 back, and the places are those of the positions, from the beginning `start` on
-      pub record Prepared (taps width phases start : ℕ) : Type 0 where
+      pub record Prepared (taps width phases start reach : ℕ) : Type 0 where
         pub window-room : length window ≡ 192
         pub rows-room : n ≤ length rows
         pub firsts-room : n ≤ length firsts
         pub offsets-room : n ≤ length offsets
-        pub staged : (k : ℕ) → k < last - base + taps → at window k ≡ limitedWord words l (pos (last + taps / 2) -ℤ pos k)
+        pub enough : last - base + taps ≤ reach
+        pub reach-high : reach ≤ 160
+        pub staged : (k : ℕ) → k < reach → at window k ≡ limitedWord words l (pos (last + taps / 2) -ℤ pos k)
         pub places : PlacesOf phases width (last - base) n (λ k. (P k - start) * 2 ^ (4 - l)) rows firsts offsets
 
-      module _ (p : Prepared N W (sizesOf b .phases) (base * unit l)) where
+      module _ {reach : ℕ} (p : Prepared N W (sizesOf b .phases) (base * unit l) reach) where
         row-is : (k : ℕ) → k < n → getD rows k 0 ≡ q k * W
         row-is k h = p .places .row k h ∙ ap (λ x. x * W) (distance-phase b l low base (P k) (behind k h))
 
@@ -113,17 +115,17 @@ module _ (b : List ℤ) (a : Accepted b) {table : List ℤ} (t : RowsOf b table)
         first-is : (k : ℕ) → k < n → getD firsts k 0 ≡ last - P k / unit l
         first-is k h = omega (arith, p .places .first k h, distance-words b l low base (P k) (behind k h), before k h, reached k h)
 
-        run-of : RunOf window table N (last - base + N) n rows firsts offsets
+        run-of : RunOf window table N reach n rows firsts offsets
         run-of = let f = sizes-bounded b a in record {
           rows-room = p .rows-room;
           firsts-room = p .firsts-room;
           offsets-room = p .offsets-room;
-          window-room = omega (arith, p .window-room, f .taps-high);
+          window-room = omega (arith, p .window-room, p .reach-high);
           table-room = omega (arith, t .room);
-          reach-high = omega (arith, f .taps-high);
+          reach-high = p .reach-high;
           taps-high = f .taps-high;
-          words-small = staged-small window words l (last + N / 2) (last - base + N) low (p .staged);
-          inside = λ k h. omega (arith, first-is k h, reached k h);
+          words-small = staged-small window words l (last + N / 2) reach low (p .staged);
+          inside = λ k h. omega (arith, first-is k h, reached k h, p .enough);
           here = λ k h. rw (row-is k h) (row-fits (q k) (omega (arith, phase-below b a l (P k))));
           next = λ k h. rw (next-row-is k h) (row-fits (suc (q k)) (phase-below b a l (P k)));
           offset-low = λ k h. rw (p .places .offset k h) (mod-lt (distance b l low base (P k) (behind k h) % 2 ^ 32 * sizesOf b .phases) (pow-pos 32));
@@ -138,7 +140,7 @@ module _ (b : List ℤ) (a : Accepted b) {table : List ℤ} (t : RowsOf b table)
             word-there j i =
                 let f = first-is k h in
                 let place : pos (last + N / 2) -ℤ pos (getD firsts k 0 + j) ≡ pos (P k / unit l + N / 2) -ℤ pos j = simp linear (omega (arith, f, before k h)) in
-                p .staged (getD firsts k 0 + j) (omega (arith, f, before k h, reached k h)) ∙ ap (limitedWord words l) place
+                p .staged (getD firsts k 0 + j) (omega (arith, f, before k h, reached k h, p .enough)) ∙ ap (limitedWord words l) place
 
         offset-is : (k : ℕ) → k < n → getD offsets k 0 ≡ offsetAt b l (P k) * 2 ^ (4 - l)
         offset-is k h = p .places .offset k h ∙ distance-offset b l low base (P k) (behind k h)
@@ -150,13 +152,13 @@ module _ (b : List ℤ) (a : Accepted b) {table : List ℤ} (t : RowsOf b table)
             (total-is k (suc (q k)) h (phase-below b a l (P k)) (next-row-is k h)) (offset-is k h)
 
       -- the same of sizes that are the book's
-      abbrev pub LevelRun : ℕ → Type 0
-      LevelRun taps = RunOf window table taps (last - base + taps) n rows firsts offsets × ((k : ℕ) → k < n → runValue window table taps rows firsts offsets k ≡ levelValue b words l (P k))
+      abbrev pub LevelRun : ℕ → ℕ → Type 0
+      LevelRun taps reach = RunOf window table taps reach n rows firsts offsets × ((k : ℕ) → k < n → runValue window table taps rows firsts offsets k ≡ levelValue b words l (P k))
           × ((k : ℕ) → k < n → getD offsets k 0 ≡ offsetAt b l (P k) * 2 ^ (4 - l))
 
-      pub level-run : {taps width phases start : ℕ} → taps ≡ N → width ≡ W → phases ≡ sizesOf b .phases → start ≡ base * unit l → Prepared taps width phases start → LevelRun taps
-      level-run {taps} {width} {phases} {start} e f g h =
-          subst (λ t. Prepared t width phases start → LevelRun t) (sym e)
-          (subst (λ w. Prepared N w phases start → LevelRun N) (sym f)
-          (subst (λ m. Prepared N W m start → LevelRun N) (sym g)
-          (subst (λ s. Prepared N W (sizesOf b .phases) s → LevelRun N) (sym h) (λ p. (run-of p, run-value p, offset-is p)))))
+      pub level-run : {taps width phases start reach : ℕ} → taps ≡ N → width ≡ W → phases ≡ sizesOf b .phases → start ≡ base * unit l → Prepared taps width phases start reach → LevelRun taps reach
+      level-run {taps} {width} {phases} {start} {reach} e f g h =
+          subst (λ t. Prepared t width phases start reach → LevelRun t reach) (sym e)
+          (subst (λ w. Prepared N w phases start reach → LevelRun N reach) (sym f)
+          (subst (λ m. Prepared N W m start reach → LevelRun N reach) (sym g)
+          (subst (λ s. Prepared N W (sizesOf b .phases) s reach → LevelRun N reach) (sym h) (λ p. (run-of p, run-value p, offset-is p)))))

@@ -54,7 +54,7 @@ fn word_before(words: &[i32], end: usize, back: usize) -> i32
 }
 
 // Words into the front of the window, the last first, and whether none lies beyond ±bound. The loop has no exit on the way, so that it takes
-// several words at once.
+// several words at once, and reads them in their order, in which the processor fetches them ahead.
 fn copied(window: &mut [i32], words: &[i32], bound: i32) -> bool
     requires { ⌜ (length (now words) ≤ length (now window)) × (length (now words) < 2 ^ 32) × (natAbs bound ≤ 2 ^ 27) × (bound ≡ pos (natAbs bound)) ⌝ }
     ensures { λ r. ⌜ ((k : ℕ) → k < length (now (words .entry)) → at (now (window .exit)) k ≡ at (now (words .entry)) (length (now (words .entry)) - suc k)) × (r ≡ true → (k : ℕ) → k < length (now (words .entry)) → natAbs (at (now (words .entry)) k) ≤ natAbs bound) ⌝ }
@@ -64,9 +64,8 @@ fn copied(window: &mut [i32], words: &[i32], bound: i32) -> bool
     let mut misses = 0;
     let mut k = 0;
     while k < count {
-        let i = count - 1 - k;
-        window[k] = words[i];
-        misses += miss(word_between(words, i, low, bound));
+        window[count - 1 - k] = words[k];
+        misses += miss(word_between(words, k, low, bound));
         k += 1;
     }
     misses == 0

@@ -18,7 +18,7 @@ use values::layout::Layout;
 use values::layout::level_words;
 
 // The values of a level, whose words are given, at positions that a window has room for, written to a line of points, newest first, before place `end`. Words
-// of level 0 are tried as samples first.
+// of level 0 are tried as samples first. Words are staged by eights: so they are taken apart as they were written, eight at a time.
 fn level_values(
     line: &mut [i64],
     end: usize,
@@ -55,7 +55,7 @@ fn level_values(
         spread,
     );
     let mut window = [0i32; 192];
-    let reach = spread + taps;
+    let reach = (spread + taps + 7) / 8 * 8;
     staged(&mut window, words, level, last as usize + taps / 2, reach);
     if sample_run(
         level,

@@ -81,6 +81,10 @@ module _ (s : tie.Start) where
       let h : 2 ^ 28 ≤ 2 ^ (28 + level) = pow-mono {i = 28} (omega arith) in
       div-lt-iff-lt-mul (pow-pos (28 + level)) .1 (omega (arith, s .pre .1 .1 .1))
 
+  -- how many words it has
+  abbrev reach : ℕ
+  reach = (last - base + taps + 7) / 8 * 8
+
   -- where the window begins
   abbrev start : ℕ
   start = base * 2 ^ (28 + level) % 2 ^ 64
@@ -121,7 +125,7 @@ module _ (c : tie.After-staged) where
   offsets = placed .places .last .1 .1 .0
 
   run : LevelRun (book from) (sound from) (from .pre .0 .3) (words from) (level from) (low from) (base from) (last from) (apart from) (count from) (positionAt from) (behind from)
-      (before-last from) window rows firsts offsets (taps from)
+      (before-last from) window rows firsts offsets (taps from) (reach from)
   run =
       level-run (book from) (sound from) (from .pre .0 .3) (words from) (level from) (low from) (base from) (last from) (apart from) (count from) (positionAt from) (behind from)
       (before-last from) window rows firsts offsets (taps-are from) (placed .before .row-width .ensures ∙ ap rowWidth (taps-are from)) (from .pre .0 .1) (start-is from)
@@ -130,6 +134,8 @@ module _ (c : tie.After-staged) where
         rows-room = omega (arith, from .pre .1 .0);
         firsts-room = omega (arith, from .pre .1 .0);
         offsets-room = omega (arith, from .pre .1 .0);
+        enough = omega arith;
+        reach-high = omega (arith, apart from, few from);
         staged = c .staged .ensures;
         places = placed .places .ensures;
       })
@@ -198,6 +204,12 @@ places-requires c κs =
 
 add-reach : tie.Need-add-reach
 add-reach c = let s = c .before .before .before .before .before .before .before .before .before .before .before in omega (arith, apart s, few s)
+
+add-reach-2 : tie.Need-add-reach-2
+add-reach-2 c = let s = c .before .before .before .before .before .before .before .before .before .before .before in omega (arith, apart s, few s)
+
+mul-reach : tie.Need-mul-reach
+mul-reach c = let s = c .before .before .before .before .before .before .before .before .before .before .before in omega (arith, apart s, few s)
 
 slice-aggregate-staged : tie.Need-slice-aggregate-staged
 slice-aggregate-staged c = search needs
@@ -288,6 +300,8 @@ level-values-spec =
     row-width-requires
     places-requires
     add-reach
+    add-reach-2
+    mul-reach
     slice-aggregate-staged
     add-staged
     staged-requires
