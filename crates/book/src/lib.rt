@@ -10,6 +10,7 @@ ghost use Rattle.arith.specs.Tests.{eqZ};
 ghost use Rattle.book.specs.Number.{refuse, _otherwise_};
 ghost use Rattle.book.specs.Book.{sizesOf, bookLength, impulse, levelTaps, decimationTaps};
 ghost use Rattle.book.specs.Check.{sizesInRange, coefficientsInRange, differencesRight, bookNumber};
+ghost use Rattle.book.specs.Inner.{HalfBand};
 use arith::words::word_size;
 
 mod columns; // numbers 4, 6 and 7 of the usual book
@@ -126,4 +127,18 @@ pub fn decimation_taps(book: &[i32]) -> &[i32]
     let array = s.phases * s.taps;
     let start = 5 + array + array + (s.reach + 1);
     &book[start..]
+}
+
+// Whether taps are half-band: those at an even distance from the centre are 0.
+pub fn half_band(taps: &[i32]) -> bool
+    ensures { λ r. ⌜ (r ≡ true → HalfBand (now (taps .entry))) ⌝ }
+{
+    let mut k = 2;
+    while k < taps.len() {
+        if taps[k] != 0 {
+            return false;
+        }
+        k += 2;
+    }
+    true
 }

@@ -9,12 +9,13 @@ use Rattle.arith.specs.Limit.{limit}
 use Rattle.arith.specs.Lists.{at, wordAt}
 use Rattle.arith.specs.Sum.{sumAround}
 use Rattle.book.specs.Check.{tapSum}
+use Rattle.book.specs.Inner.{HalfBand}
 
--- a step by which a sum may pass through the taps from tap 1 on: 1, or 2 where every even tap from 2 on is 0
+-- a step by which a sum may pass through the taps from tap 1 on: 1, or 2 where they are half-band
 pub record TapStep (taps : List ℤ) (step : ℕ) : Type 0 where
   pub low : 1 ≤ step
   pub high : step ≤ 2
-  pub even : step ≡ 2 → (k : ℕ) → at taps (2 * k + 2) ≡ pos 0
+  pub even : step ≡ 2 → HalfBand taps
 
 -- taps and points whose sums fit
 pub record Summable (taps : List ℤ) (step : ℕ) (line : List ℤ) : Type 0 where

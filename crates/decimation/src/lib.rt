@@ -18,18 +18,14 @@ struct FourSums {
     d: i64,
 }
 
-// The step of the sums: half-band taps, whose even ones from 2 on are 0, are passed by twos.
+// The step of the sums: half-band taps are passed by twos.
 fn tap_step(taps: &[i32]) -> usize
     ensures { λ r. ⌜ TapStep (now (taps .entry)) r ⌝ }
 {
-    let mut k = 2;
-    while k < taps.len() {
-        if taps[k] != 0 {
-            return 1;
-        }
-        k += 2;
+    if book::half_band(taps) {
+        return 2;
     }
-    2
+    1
 }
 
 // A sum, and a tap times the points k before and k after place `centre`.

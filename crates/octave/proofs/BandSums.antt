@@ -13,9 +13,10 @@ use Rattle.arith.specs.Sum.{sum, total, sumAround}
 use Rattle.arith.proofs.Linear.{linear}
 use Rattle.arith.proofs.Sum.{sum-more, sum-ext, sum-first, total-more, total-ext, total-first, total-mono}
 use Rattle.book.specs.Check.{tapSum}
+use Rattle.book.specs.Inner.{HalfBand}
 use Rattle.pair_sums.specs.Pairs.{upperPart, lowerPart, samplePart, Samples, placeOf, shift, lineSum, Small}
 use Rattle.octave.specs.Octave.{levelSum}
-use Rattle.octave.specs.Inner.{HalfBand, BandRows}
+use Rattle.octave.specs.Inner.{BandRows}
 use Rattle.octave.proofs.PairSums.{by-parts, by-samples, lines, lines-small, same-tap}
 
 -- ---- a sum around 0, of what is 0 at all other even places, and of sizes

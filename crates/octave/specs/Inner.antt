@@ -7,6 +7,7 @@ use lib.IntN.{ℤ, pos, negsuc, natAbs, _-ℤ_}
 use lib.ListN.{length}
 use Rattle.arith.specs.Limit.{limit}
 use Rattle.arith.specs.Lists.{at}
+use Rattle.book.specs.Inner.{HalfBand}
 
 -- tap c in the order of time, limited to 16 bits; 0 behind the last
 abbrev pub timeTap : List ℤ → ℕ → ℤ
@@ -17,10 +18,6 @@ abbrev pub Rows : List ℤ → List ℤ → Type 0
 Rows h rows = (k j : ℕ) → k < length h → j < 16 → (at rows (32 * k + 2 * j) ≡ timeTap h (2 * k)) × (at rows (32 * k + 2 * j + 1) ≡ timeTap h (2 * k + 1))
 
 -- ---- half-band taps
-
--- those at an even distance from the centre are 0
-abbrev pub HalfBand : List ℤ → Type 0
-HalfBand h = (e : ℕ) → at h (2 * e + 2) ≡ pos 0
 
 -- tap c of those at an odd distance, in the order of time, limited to 16 bits
 abbrev pub oddTap : List ℤ → ℕ → ℤ

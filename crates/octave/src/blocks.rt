@@ -23,7 +23,7 @@ pub(crate) fn make_rows(taps: &[i32], rows: &mut [i16; 1312]) -> bool
         groups::write_rows(taps, rows);
         return false;
     }
-    if !half_band::half_band(taps) {
+    if !book::half_band(taps) {
         groups::write_rows(taps, rows);
         return false;
     }

@@ -2,7 +2,6 @@
 // in front, and the words between 104 places on. Neighbours there lie two words apart in the level, so that sixteen sums are those of every second
 // word of the level above.
 
-ghost use mathlib.Core.Bool.{true};
 ghost use mathlib.Core.Path.{_≡_};
 ghost use Prim.Native.Nat.{ℕ, _+_, _*_, _/_, _%_, _^_, _≤_, _<_};
 ghost use lib.IntN.{pos, natAbs};
@@ -10,30 +9,16 @@ ghost use lib.ListN.{length};
 ghost use lib.Signed.{_<ℤ_};
 ghost use Rattle.arith.specs.Lists.{at, part, tabulate, overwrite};
 ghost use Rattle.book.specs.Check.{tapSum};
+ghost use Rattle.book.specs.Inner.{HalfBand};
 ghost use Rattle.pair_sums.specs.Pairs.{Samples};
 ghost use Rattle.octave.specs.Octave.{nextLevel};
-ghost use Rattle.octave.specs.Inner.{HalfBand, oddTap, BandRows};
+ghost use Rattle.octave.specs.Inner.{oddTap, BandRows};
 use pair_sums::part_words;
 use pair_sums::parts::split_lower;
 use pair_sums::parts::split_samples;
 use pair_sums::parts::split_upper;
 use pair_sums::sample_words;
 use pair_sums::write_row;
-
-// Whether these are such taps.
-pub(crate) fn half_band(taps: &[i32]) -> bool
-    requires { ⌜ length (now taps) ≤ 41 ⌝ }
-    ensures { λ r. ⌜ (r ≡ true → HalfBand (now (taps .entry))) ⌝ }
-{
-    let mut k = 2;
-    while k < taps.len() {
-        if taps[k] != 0 {
-            return false;
-        }
-        k += 2;
-    }
-    true
-}
 
 // Tap c of those at an odd distance, in the order of time.
 fn odd_tap(taps: &[i32], c: usize) -> i16

@@ -11,7 +11,7 @@ returns : tie.Need-returns
 returns c = c .write-rows .ensures
 
 half-band-requires : tie.Need-half-band-requires
-half-band-requires c κs = c .before .pre .1
+half-band-requires c κs = tt
 
 write-rows-requires-2 : tie.Need-write-rows-requires-2
 write-rows-requires-2 c κs = c .before .before .before .before .pre
