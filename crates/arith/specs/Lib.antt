@@ -3,3 +3,4 @@ pub mod Limit
 pub mod Lists
 pub mod Sum
 pub mod Tests
+pub mod Words

@@ -8,7 +8,7 @@ ghost use lib.Signed.{ltZ, _<ℤ_, _≤ℤ_};
 ghost use Rattle.arith.specs.Floor.{floorDiv, near};
 ghost use Rattle.arith.specs.Limit.{limit};
 
-pub mod words; // words of a slice, by their size and range
+pub mod words; // a word's bits; words of a slice, by their size and range
 
 // The absolute value.
 pub fn magnitude(x: i32) -> u64

@@ -1,4 +1,4 @@
-// Words of a slice: the size of one, and whether one, or each of several, lies in a range.
+// Words: the bits of one without a sign; of words of a slice, the size of one, and whether one, or each of several, lies in a range.
 
 ghost use mathlib.Core.Bool.{cond};
 ghost use mathlib.Core.Path.{_≡_};
@@ -7,7 +7,18 @@ ghost use lib.IntN.{natAbs};
 ghost use lib.ListN.{length};
 ghost use Rattle.arith.specs.Lists.{at};
 ghost use Rattle.arith.specs.Tests.{within, every};
+ghost use Rattle.arith.specs.Words.{unsigned};
 use crate::magnitude;
+
+// The 32 bits of x, read as an unsigned number: no instruction.
+pub fn unsigned(x: i32) -> u32
+    ensures { λ r. ⌜ r ≡ unsigned x ⌝ }
+{
+    if x < 0 {
+        return (x as i64 + 4294967296) as u32;
+    }
+    x as u32
+}
 
 // The absolute value of a word.
 pub fn word_size(words: &[i32], i: usize) -> usize

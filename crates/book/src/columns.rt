@@ -3,11 +3,11 @@
 
 ghost use mathlib.Core.Bool.{true, cond};
 ghost use mathlib.Core.Path.{_≡_};
-ghost use Prim.Native.Nat.{ℕ, _+_, _-_, _*_, _^_, _≤_, _<_};
+ghost use Prim.Native.Nat.{ℕ, _+_, _-_, _*_, _≤_, _<_};
 ghost use lib.Dec.{leb};
-ghost use lib.IntN.{pos, negsuc, natAbs, _+ℤ_, _-ℤ_};
+ghost use lib.IntN.{pos, negsuc, natAbs, _-ℤ_};
 ghost use lib.ListN.{length};
-ghost use lib.Signed.{ltZ, _≤ℤ_};
+ghost use lib.Signed.{_≤ℤ_};
 ghost use Rattle.arith.specs.Lists.{at};
 ghost use Rattle.arith.specs.Sum.{total};
 ghost use Rattle.arith.specs.Tests.{eqZ, every};
@@ -17,6 +17,7 @@ ghost use Rattle.book.specs.Columns.{larger, Bounds, Tested, Passed, Rai
 use crate::differences::differences_right;
 use crate::sums::tap_sums_within;
 use arith::narrow;
+use arith::words::unsigned;
 
 // x, or −1 − x below 0: 16 bits hold it, and the size of x is at most 1 above it.
 fn folded(x: i16) -> i16
@@ -45,22 +46,12 @@ fn raise(bounds: &mut [i16], book: &[i32], column: usize, row: usize, count: usi
     }
 }
 
-// The number that the 32 bits of x are without a sign: no instruction.
-fn bits(x: i32) -> u32
-    ensures { λ r. ⌜ pos r ≡ x +ℤ pos (2 ^ 32 * cond (ltZ x (pos 0)) 1 0) ⌝ }
-{
-    if x < 0 {
-        return (x as i64 + 4294967296) as u32;
-    }
-    x as u32
-}
-
 // Whether the bits of `difference` and `from` add up to those of `next`, modulo 2^32. It asks for no range, so that it can be tested before the range
 // is known; of impulses in range it then tells that the difference is right.
 fn follows(difference: i32, next: i32, from: i32) -> bool
     ensures { λ r. ⌜ (r ≡ true → natAbs next ≤ 32767 → natAbs from ≤ 32767 → difference ≡ next -ℤ from) ⌝ }
 {
-    bits(next) == std::num::wrapping_add_u32(bits(difference), bits(from))
+    unsigned(next) == std::num::wrapping_add_u32(unsigned(difference), unsigned(from))
 }
 
 // A bound, or where a test failed the one that bounds nothing.

@@ -9,9 +9,10 @@ use borrow.Author.Tests.{lt-ltb, le-ltb}
 use lib.IntN.{pos, negsuc, _-ℤ_}
 use lib.ListN.{length}
 use lib.Seq.{take-all}
+use Rattle.arith.specs.Words.{unsigned}
 use Rattle.arith.proofs.Linear.{linear}
 use Rattle.player.specs.declared.Voice.{Voice}
-use Rattle.marshal.specs.Words.{unsigned, signed, wide, lowWord, highWord, controlOf, voiceOf, controlWords, wordsOf}
+use Rattle.marshal.specs.Words.{signed, wide, lowWord, highWord, controlOf, voiceOf, controlWords, wordsOf}
 
 -- ---- one word, and two
 

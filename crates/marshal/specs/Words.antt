@@ -1,17 +1,13 @@
 -- A voice as 95 signed 32-bit words. An unsigned field is the 32 bits of its word; a field of 64 bits is two words, the low one first.
 use mathlib.Core.Bool.{cond}
 use mathlib.Core.List.{List, [], _∷_, _++_}
-use Prim.Native.Nat.{ℕ, suc, _+_, _-_, _*_, _/_, _%_, _^_}
+use Prim.Native.Nat.{ℕ, _+_, _*_, _/_, _%_, _^_}
 use lib.Dec.{ltb}
-use lib.IntN.{ℤ, pos, negsuc, _-ℤ_}
+use lib.IntN.{ℤ, pos, _-ℤ_}
 use Rattle.arith.specs.Lists.{at, part}
+use Rattle.arith.specs.Words.{unsigned}
 use Rattle.control.specs.declared.Control.{Control}
 use Rattle.player.specs.declared.Voice.{Voice}
-
--- the 32 bits of a word, read as an unsigned number
-unfoldable pub unsigned : ℤ → ℕ
-unsigned (pos n) = n
-unsigned (negsuc n) = 2 ^ 32 - suc n
 
 -- the word that has the 32 bits of n
 unfoldable pub signed : ℕ → ℤ

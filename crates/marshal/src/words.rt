@@ -6,21 +6,13 @@ ghost use mathlib.Core.List.{_++_};
 ghost use Prim.Native.Nat.{_+_, _≤_, _<_};
 ghost use lib.ListN.{length};
 ghost use Rattle.arith.specs.Lists.{at, part, overwrite};
-ghost use Rattle.marshal.specs.Words.{voiceLength, unsigned, signed, wide, lowWord, highWord, controlOf, voiceOf, controlWords, wordsOf};
+ghost use Rattle.arith.specs.Words.{unsigned};
+ghost use Rattle.marshal.specs.Words.{voiceLength, signed, wide, lowWord, highWord, controlOf, voiceOf, controlWords, wordsOf};
+use arith::words::unsigned;
 use control::Control;
 use control::Fade;
 use control::Glide;
 use player::Voice;
-
-// The 32 bits of a word, read as an unsigned number.
-fn unsigned(x: i32) -> u32
-    ensures { λ r. ⌜ r ≡ unsigned x ⌝ }
-{
-    if x < 0 {
-        return (x as i64 + 4294967296) as u32;
-    }
-    x as u32
-}
 
 // The word that has the 32 bits of x.
 fn signed(x: u32) -> i32

@@ -2,14 +2,15 @@
 use borrow.Author.Needs.{needs}
 use borrow.Author.Tests.{eqb-true}
 use mathlib.Core.Bool.{cond}
-use mathlib.Core.Path.{_≡_, _∙_}
+use mathlib.Core.Path.{_≡_, ap, _∙_}
 use Prim.Native.Nat.{ℕ, _+_, _*_, _/_, _%_, _^_, _≤_, _<_}
 use native.Mathlib.Omega.{arith}
 use lib.IntN.{ℤ, pos, natAbs, _+ℤ_, _-ℤ_}
 use lib.Signed.{ltZ}
 use mir.Syntax.{w32}
 use mir.Val.{SFits}
-use Rattle.arith.proofs.Bits.{reads}
+use Rattle.arith.specs.Words.{unsigned}
+use Rattle.arith.proofs.Bits.{reads, read32, unsigned-more}
 use Rattle.arith.proofs.Linear.{linear}
 use Rattle.book.proofs.columns.follows.Statement.{statement}
 use Rattle.book.proofs.columns.follows.Tie as tie
@@ -20,6 +21,9 @@ Bits x a s = pos a ≡ x +ℤ pos (2 ^ 32 * s)
 
 abbrev more : ℤ → ℕ
 more x = cond (ltZ x (pos 0)) 1 0
+
+bits-of : {x : ℤ} {a : ℕ} → SFits w32 x → a ≡ unsigned (read32 x) → Bits x a (more x)
+bits-of {x} f e = ap pos (simp (reads, f) at e) ∙ unsigned-more x f
 
 add-up : (d n f : ℤ) (a b c s t u k : ℕ) → Bits n a s → Bits d b t → Bits f c u → b + c ≡ a + 2 ^ 32 * k → d +ℤ f +ℤ pos (2 ^ 32 * (t + u)) ≡ n +ℤ pos (2 ^ 32 * (s + k))
 add-up d n f a b c s t u k p q r e = simp linear (omega (arith, simp linear at p, simp linear at q, simp linear at r))
@@ -34,14 +38,14 @@ near d n f h k l = simp linear (omega (arith, simp linear at h, simp linear at k
 less : (d n f : ℤ) → d +ℤ f ≡ n → d ≡ n -ℤ f
 less d n f e = simp linear (omega (arith, simp linear at e))
 
-bits-requires : tie.Need-bits-requires
-bits-requires c κs = search needs
+unsigned-requires : tie.Need-unsigned-requires
+unsigned-requires c κs = search needs
 
-bits-requires-2 : tie.Need-bits-requires-2
-bits-requires-2 c κs = search needs
+unsigned-requires-2 : tie.Need-unsigned-requires-2
+unsigned-requires-2 c κs = search needs
 
-bits-requires-3 : tie.Need-bits-requires-3
-bits-requires-3 c κs = search needs
+unsigned-requires-3 : tie.Need-unsigned-requires-3
+unsigned-requires-3 c κs = search needs
 
 wrapping-add-u32-requires : tie.Need-wrapping-add-u32-requires
 wrapping-add-u32-requires c κs = search needs
@@ -53,14 +57,14 @@ returns c e small low =
     let f = c .before in
     let a = n .before .args in
     let g = n .before .fits in
-    let p = n .bits .result in
-    let q = d .bits2 .result in
-    let r = f .bits3 .result in
+    let p = n .unsigned .result in
+    let q = d .unsigned2 .result in
+    let r = f .unsigned3 .result in
     let equal : p ≡ (q + r) % 2 ^ 32 = eqb-true p (c .wrapping-add-u32 .result) e ∙ c .wrapping-add-u32 .ensures in
-    let sum = add-up (a .difference) (a .next) (a .from) p q r (more (a .next)) (more (a .difference)) (more (a .from)) ((q + r) / 2 ^ 32) (simp (reads, g .next) at (n .bits .ensures)) (simp (reads, g .difference) at (d .bits2 .ensures)) (simp (reads, g .from) at (f .bits3 .ensures)) (omega (arith, equal)) in
+    let sum = add-up (a .difference) (a .next) (a .from) p q r (more (a .next)) (more (a .difference)) (more (a .from)) ((q + r) / 2 ^ 32) (bits-of (g .next) (n .unsigned .ensures)) (bits-of (g .difference) (d .unsigned2 .ensures)) (bits-of (g .from) (f .unsigned3 .ensures)) (omega (arith, equal)) in
     less (a .difference) (a .next) (a .from) (agree _ _ _ _ sum (near (a .difference) (a .next) (a .from) (g .difference) small low))
 
 pub follows-spec : {M : Type 1} → statement M
 follows-spec =
     tie.close
-    (tie.spec bits-requires bits-requires-2 bits-requires-3 wrapping-add-u32-requires returns)
+    (tie.spec unsigned-requires unsigned-requires-2 unsigned-requires-3 wrapping-add-u32-requires returns)
