@@ -26,7 +26,7 @@ use Rattle.pair_sums.specs.Pairs.{upperPart, lowerPart, samplePart, Samples, pa
 use Rattle.pair_sums.proofs.Pairs.{lower-between}
 use Rattle.octave.specs.Octave.{halfLength, levelSum, levelWord, nextLevel}
 use Rattle.octave.specs.Inner.{Rows}
-use Rattle.octave.proofs.Octave.{length-next, at-next}
+use Rattle.octave.proofs.Octave.{halfLength-holds, length-next, at-next}
 
 -- ---- parts of a word
 
@@ -218,25 +218,40 @@ unfolding levelWord
 block-words h level xs n place l are =
     tabulate-part (nextLevel h level) n 64 (λ i. at xs (place i)) (omega (arith, length-next h level)) (λ i m. are i m ∙ sym (at-next h level (n + i) (omega arith)))
 
--- the words as the code lends them, from the first that it reads on
-module _ (store : List ℤ) (start words n count : ℕ) (inside : count ≤ 2 * n + 1) where
-  abbrev from : ℕ
-  from = start + 2 * n + 1 - count
+-- a block's words as the code lends them, from the first that it reads on, `count` words before its centre: where they stand in the level, and how large they are
+module _ (store : List ℤ) (start words n count : ℕ) where
+  abbrev pub level : List ℤ
+  level = part store start words
 
-  abbrev behind : ℕ
-  behind = start + words - from
+  abbrev pub lent : List ℤ
+  lent = part store (start + 2 * n + 1 - count) (start + words - (start + 2 * n + 1 - count))
 
-  pub lent-at : (i : ℕ) → i < behind → at (part store from behind) i ≡ at (part store start words) (2 * n + 1 - count + i)
-  lent-at i l =
-      let e : from + i ≡ start + (2 * n + 1 - count + i) = omega arith in
-      at-part store from behind i l ∙ ap (at store) e ∙ sym (at-part store start words (2 * n + 1 - count + i) (omega arith))
+  pub record Block : Type 0 where
+    pub lent-length : length lent ≡ start + words - (start + 2 * n + 1 - count)
+    pub lent-at : (i : ℕ) → i < length lent → at lent i ≡ at level (2 * n + 1 - count + i)
+    pub lent-small : (c : ℕ) → ((k : ℕ) → natAbs (at level k) ≤ c) → (i : ℕ) → natAbs (at lent i) ≤ c
+    pub inside : n + 64 ≤ halfLength (length level)
 
-  pub lent-small : start + words ≤ length store → 2 * n + 1 ≤ count + words → (c : ℕ) → ((k : ℕ) → natAbs (at (part store start words) k) ≤ c) → (i : ℕ) → natAbs (at (part store from behind) i) ≤ c
-  lent-small all near c small i = go (decLe (suc i) behind)
+  -- a block that lies inside the level, which lies inside the store
+  pub block : count ≤ 2 * n + 1 → 2 * n + 127 ≤ words → start + words ≤ length store → Block
+  block before after all = record {
+    lent-length = long;
+    lent-at = word;
+    lent-small = λ c small i. go c small i (decLe (suc i) (length lent));
+    inside = let e = part-length store start words all in omega (arith, halfLength-holds (length level) (n + 63) (omega (arith, e)));
+  }
     where
-      go : Dec (i < behind) → natAbs (at (part store from behind) i) ≤ c
-      go (yes l) = rw (lent-at i l) (small (2 * n + 1 - count + i))
-      go (no l) = rw (at-outside (part store from behind) i (omega (arith, part-length store from behind (omega arith)))) (omega arith)
+      long : length lent ≡ start + words - (start + 2 * n + 1 - count)
+      long = part-length store (start + 2 * n + 1 - count) (start + words - (start + 2 * n + 1 - count)) (omega arith)
+
+      word : (i : ℕ) → i < length lent → at lent i ≡ at level (2 * n + 1 - count + i)
+      word i l =
+          let e : start + 2 * n + 1 - count + i ≡ start + (2 * n + 1 - count + i) = omega arith in
+          at-part store (start + 2 * n + 1 - count) (start + words - (start + 2 * n + 1 - count)) i (omega (arith, long)) ∙ ap (at store) e ∙ sym (at-part store start words (2 * n + 1 - count + i) (omega (arith, long)))
+
+      go : (c : ℕ) → ((k : ℕ) → natAbs (at level k) ≤ c) → (i : ℕ) → Dec (i < length lent) → natAbs (at lent i) ≤ c
+      go c small i (yes l) = rw (word i l) (small (2 * n + 1 - count + i))
+      go c small i (no l) = rw (at-outside lent i (omega arith)) (omega arith)
 
 -- pairs in a row
 in-row : (s k : ℕ) → placeOf (0 + s) (2 + s) k ≡ s + 2 * k

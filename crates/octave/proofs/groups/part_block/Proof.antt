@@ -8,12 +8,10 @@ use lib.IntN.{ℤ, natAbs}
 use lib.ListN.{length}
 use Rattle.arith.specs.Floor.{near}
 use Rattle.arith.specs.Lists.{at, part, overwrite}
-use Rattle.arith.proofs.Lists.{part-length}
 use Rattle.pair_sums.specs.Pairs.{upperPart, lowerPart}
 use Rattle.pair_sums.proofs.Pairs.{upper-small}
-use Rattle.octave.specs.Octave.{halfLength, levelSum}
-use Rattle.octave.proofs.Octave.{halfLength-holds}
-use Rattle.octave.proofs.PairSums.{lower-small, lent-at, lent-small, all-small, part-lines, block-words}
+use Rattle.octave.specs.Octave.{levelSum}
+use Rattle.octave.proofs.PairSums.{lower-small, Block, block, all-small, part-lines, block-words}
 use Rattle.octave.proofs.groups.part_block.Statement.{statement}
 use Rattle.octave.proofs.groups.part_block.Tie as tie
 
@@ -33,25 +31,8 @@ module _ (s : tie.Start) where
   abbrev n : ℕ
   n = s .args .n
 
-  abbrev first : ℕ
-  first = s .args .start + 2 * n + 1 - length taps
-
-  abbrev behind : ℕ
-  behind = s .args .start + s .args .words - first
-
-  length-lent : length (part store first behind) ≡ behind
-  length-lent = part-length store first behind (omega arith)
-
-  lent : (i : ℕ) → i < behind → at (part store first behind) i ≡ at level (2 * n + 1 - length taps + i)
-  lent = lent-at store (s .args .start) (s .args .words) n (length taps) (omega arith)
-
-  block-inside : n + 64 ≤ halfLength (length level)
-  block-inside =
-      let e = part-length store (s .args .start) (s .args .words) (omega arith) in
-      omega (arith, halfLength-holds (length level) (n + 63) (omega (arith, e)))
-
-  small : (i : ℕ) → natAbs (at (part store first behind) i) ≤ 2 ^ 26
-  small = lent-small store (s .args .start) (s .args .words) n (length taps) (omega arith) (omega arith) (omega arith) (2 ^ 26) (s .pre .1 .1 .1)
+  here : Block store (s .args .start) (s .args .words) n (length taps)
+  here = block store (s .args .start) (s .args .words) n (length taps) (omega arith) (omega arith) (omega arith)
 
 -- the parts of the words
 module _ (w : tie.After-write-parts) where
@@ -65,10 +46,10 @@ module _ (w : tie.After-write-parts) where
   lows = w .write-parts .last .1 .1 .1 .0
 
   upper : (i : ℕ) → i < 2 * length (taps s) + 126 → at highs i ≡ upperPart (at (level s) (2 * n s + 1 - length (taps s) + i))
-  upper i l = w .write-parts .ensures .0 i (omega arith) ∙ ap upperPart (lent s i (omega arith))
+  upper i l = w .write-parts .ensures .0 i (omega arith) ∙ ap upperPart (here s .lent-at i (omega (arith, here s .lent-length)))
 
   lower : (i : ℕ) → i < 2 * length (taps s) + 126 → at lows i ≡ lowerPart (at (level s) (2 * n s + 1 - length (taps s) + i))
-  lower i l = w .write-parts .ensures .1 .0 i (omega arith) ∙ ap lowerPart (lent s i (omega arith))
+  lower i l = w .write-parts .ensures .1 .0 i (omega arith) ∙ ap lowerPart (here s .lent-at i (omega (arith, here s .lent-length)))
 
 -- the words
 module _ (r : tie.After-part-words) where
@@ -128,7 +109,7 @@ mul-write-parts-3 c = search needs
 
 write-parts-requires : tie.Need-write-parts-requires
 write-parts-requires c κs = let s = c .before .before .before .before in
-    ((omega (arith, length-lent s), omega arith, s .pre .1 .1 .0 .0, s .pre .1 .1 .0 .1), small s)
+    ((omega (arith, here s .lent-length), omega arith, s .pre .1 .1 .0 .0, s .pre .1 .1 .0 .1), here s .lent-small (2 ^ 26) (s .pre .1 .1 .1))
 
 part-words-requires : tie.Need-part-words-requires
 part-words-requires c κs = let w = c .before .before .before .before in
@@ -151,7 +132,7 @@ returns c = let r = c .before .before .before .before in
     let w = w r in
     let s = s w in (
       c .before .write-words .ensures
-          ∙ ap (overwrite (store s) (s .args .start + s .args .words + n s)) (block-words (taps s) (level s) (r .part-words .last .1 .1 .1 .1 .1 .1 .1 .0) (n s) (λ i. i) (block-inside s) (words-are r)),
+          ∙ ap (overwrite (store s) (s .args .start + s .args .words + n s)) (block-words (taps s) (level s) (r .part-words .last .1 .1 .1 .1 .1 .1 .1 .0) (n s) (λ i. i) (here s .inside) (words-are r)),
       (w .write-parts .ensures .1 .1 .0, w .write-parts .ensures .1 .1 .1, r .part-words .ensures .1 .0, r .part-words .ensures .1 .1),
     )
 

@@ -8,11 +8,9 @@ use lib.IntN.{ℤ}
 use lib.ListN.{length}
 use Rattle.arith.specs.Floor.{near}
 use Rattle.arith.specs.Lists.{at, part, overwrite}
-use Rattle.arith.proofs.Lists.{part-length}
 use Rattle.pair_sums.specs.Pairs.{samplePart}
-use Rattle.octave.specs.Octave.{halfLength, levelSum}
-use Rattle.octave.proofs.Octave.{halfLength-holds}
-use Rattle.octave.proofs.PairSums.{sample-small, lent-at, all-small, sample-lines, block-words}
+use Rattle.octave.specs.Octave.{levelSum}
+use Rattle.octave.proofs.PairSums.{sample-small, Block, block, all-small, sample-lines, block-words}
 use Rattle.octave.proofs.groups.sample_block.Statement.{statement}
 use Rattle.octave.proofs.groups.sample_block.Tie as tie
 
@@ -32,22 +30,8 @@ module _ (s : tie.Start) where
   abbrev n : ℕ
   n = s .args .n
 
-  abbrev first : ℕ
-  first = s .args .start + 2 * n + 1 - length taps
-
-  abbrev behind : ℕ
-  behind = s .args .start + s .args .words - first
-
-  length-lent : length (part store first behind) ≡ behind
-  length-lent = part-length store first behind (omega arith)
-
-  lent : (i : ℕ) → i < behind → at (part store first behind) i ≡ at level (2 * n + 1 - length taps + i)
-  lent = lent-at store (s .args .start) (s .args .words) n (length taps) (omega arith)
-
-  block-inside : n + 64 ≤ halfLength (length level)
-  block-inside =
-      let e = part-length store (s .args .start) (s .args .words) (omega arith) in
-      omega (arith, halfLength-holds (length level) (n + 63) (omega (arith, e)))
+  here : Block store (s .args .start) (s .args .words) n (length taps)
+  here = block store (s .args .start) (s .args .words) n (length taps) (omega arith) (omega arith) (omega arith)
 
 -- the words in one part
 module _ (w : tie.After-write-samples) where
@@ -58,7 +42,7 @@ module _ (w : tie.After-write-samples) where
   highs = w .write-samples .last .1 .1 .0
 
   staged : (i : ℕ) → i < 2 * length (taps s) + 126 → at highs i ≡ samplePart (at (level s) (2 * n s + 1 - length (taps s) + i))
-  staged i l = w .write-samples .ensures .0 i (omega arith) ∙ ap samplePart (lent s i (omega arith))
+  staged i l = w .write-samples .ensures .0 i (omega arith) ∙ ap samplePart (here s .lent-at i (omega (arith, here s .lent-length)))
 
 -- the words
 module _ (r : tie.After-sample-words) where
@@ -118,7 +102,7 @@ mul-write-samples-3 c = search needs
 
 write-samples-requires : tie.Need-write-samples-requires
 write-samples-requires c κs = let s = c .before .before .before in
-    (omega (arith, length-lent s), omega arith, s .pre .1 .1 .0)
+    (omega (arith, here s .lent-length), omega arith, s .pre .1 .1 .0)
 
 sample-words-requires : tie.Need-sample-words-requires
 sample-words-requires c κs = let w = c .before .before in
@@ -136,7 +120,7 @@ returns c = let r = c .before .before .before .before in
     let w = w r in
     let s = s w in (
       c .before .write-words .ensures
-          ∙ ap (overwrite (store s) (s .args .start + s .args .words + n s)) (block-words (taps s) (level s) (r .sample-words .last .1 .1 .1 .1 .1 .1 .0) (n s) (λ i. i) (block-inside s) (words-are r)),
+          ∙ ap (overwrite (store s) (s .args .start + s .args .words + n s)) (block-words (taps s) (level s) (r .sample-words .last .1 .1 .1 .1 .1 .1 .0) (n s) (λ i. i) (here s .inside) (words-are r)),
       (w .write-samples .ensures .1, r .sample-words .ensures .1),
     )
 

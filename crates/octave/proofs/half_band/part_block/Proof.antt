@@ -8,12 +8,10 @@ use lib.IntN.{ℤ, natAbs}
 use lib.ListN.{length}
 use Rattle.arith.specs.Floor.{near}
 use Rattle.arith.specs.Lists.{at, part, overwrite}
-use Rattle.arith.proofs.Lists.{part-length}
 use Rattle.pair_sums.specs.Pairs.{upperPart, lowerPart, shift}
 use Rattle.pair_sums.proofs.Pairs.{upper-small}
-use Rattle.octave.specs.Octave.{halfLength, levelSum}
-use Rattle.octave.proofs.Octave.{halfLength-holds}
-use Rattle.octave.proofs.PairSums.{lower-small, lent-at, lent-small, block-words}
+use Rattle.octave.specs.Octave.{levelSum}
+use Rattle.octave.proofs.PairSums.{lower-small, Block, block, block-words}
 use Rattle.octave.proofs.BandSums.{band-small, band-parts}
 use Rattle.octave.proofs.half_band.part_block.Statement.{statement}
 use Rattle.octave.proofs.half_band.part_block.Tie as tie
@@ -34,25 +32,8 @@ module _ (s : tie.Start) where
   abbrev n : ℕ
   n = s .args .n
 
-  abbrev first : ℕ
-  first = s .args .start + 2 * n + 1 - 2 * (length taps / 2)
-
-  abbrev behind : ℕ
-  behind = s .args .start + s .args .words - first
-
-  length-lent : length (part store first behind) ≡ behind
-  length-lent = part-length store first behind (omega arith)
-
-  lent : (i : ℕ) → i < behind → at (part store first behind) i ≡ at level (2 * n + 1 - 2 * (length taps / 2) + i)
-  lent = lent-at store (s .args .start) (s .args .words) n (2 * (length taps / 2)) (omega arith)
-
-  block-inside : n + 64 ≤ halfLength (length level)
-  block-inside =
-      let e = part-length store (s .args .start) (s .args .words) (omega arith) in
-      omega (arith, halfLength-holds (length level) (n + 63) (omega (arith, e)))
-
-  small : (i : ℕ) → natAbs (at (part store first behind) i) ≤ 2 ^ 26
-  small = lent-small store (s .args .start) (s .args .words) n (2 * (length taps / 2)) (omega arith) (omega arith) (omega arith) (2 ^ 26) (s .pre .1 .1 .1)
+  here : Block store (s .args .start) (s .args .words) n (2 * (length taps / 2))
+  here = block store (s .args .start) (s .args .words) n (2 * (length taps / 2)) (omega arith) (omega arith) (omega arith)
 
 -- the parts of the words
 module _ (w : tie.After-split-lower) where
@@ -70,11 +51,11 @@ module _ (w : tie.After-split-lower) where
 
   upper : (i : ℕ) → i < 2 * (length (taps s) / 2) + 64
       → (at highs i ≡ upperPart (at (level s) (2 * n s + 1 - 2 * (length (taps s) / 2) + 2 * i))) × (at highs (104 + i) ≡ upperPart (at (level s) (2 * n s + 1 - 2 * (length (taps s) / 2) + (2 * i + 1))))
-  upper i l = let e = u .split-upper .ensures .0 i (omega arith) in (e .0 ∙ ap upperPart (lent s (2 * i) (omega arith)), e .1 ∙ ap upperPart (lent s (2 * i + 1) (omega arith)))
+  upper i l = let e = u .split-upper .ensures .0 i (omega arith) in (e .0 ∙ ap upperPart (here s .lent-at (2 * i) (omega (arith, here s .lent-length))), e .1 ∙ ap upperPart (here s .lent-at (2 * i + 1) (omega (arith, here s .lent-length))))
 
   lower : (i : ℕ) → i < 2 * (length (taps s) / 2) + 64
       → (at lows i ≡ lowerPart (at (level s) (2 * n s + 1 - 2 * (length (taps s) / 2) + 2 * i))) × (at lows (104 + i) ≡ lowerPart (at (level s) (2 * n s + 1 - 2 * (length (taps s) / 2) + (2 * i + 1))))
-  lower i l = let e = w .split-lower .ensures .0 i (omega arith) in (e .0 ∙ ap lowerPart (lent s (2 * i) (omega arith)), e .1 ∙ ap lowerPart (lent s (2 * i + 1) (omega arith)))
+  lower i l = let e = w .split-lower .ensures .0 i (omega arith) in (e .0 ∙ ap lowerPart (here s .lent-at (2 * i) (omega (arith, here s .lent-length))), e .1 ∙ ap lowerPart (here s .lent-at (2 * i + 1) (omega (arith, here s .lent-length))))
 
 -- the words
 module _ (r : tie.After-part-words) where
@@ -138,7 +119,7 @@ part-split-upper-end c = search needs
 
 split-upper-requires : tie.Need-split-upper-requires
 split-upper-requires c κs = let s = c .before .before .before in
-    ((omega (arith, length-lent s), omega arith, s .pre .1 .1 .0 .0), small s)
+    ((omega (arith, here s .lent-length), omega arith, s .pre .1 .1 .0 .0), here s .lent-small (2 ^ 26) (s .pre .1 .1 .1))
 
 mul-split-lower : tie.Need-mul-split-lower
 mul-split-lower c = search needs
@@ -154,7 +135,7 @@ part-split-lower-end c = search needs
 
 split-lower-requires : tie.Need-split-lower-requires
 split-lower-requires c κs = let s = c .before .before .before .before .before .before .before in
-    ((omega (arith, length-lent s), omega arith, s .pre .1 .1 .0 .1), small s)
+    ((omega (arith, here s .lent-length), omega arith, s .pre .1 .1 .0 .1), here s .lent-small (2 ^ 26) (s .pre .1 .1 .1))
 
 add-part-words : tie.Need-add-part-words
 add-part-words c = search needs
@@ -183,7 +164,7 @@ returns c = let r = c .before .before .before .before in
     let w = w r in
     let s = s w in (
       c .before .mix-words .ensures
-          ∙ ap (overwrite (store s) (s .args .start + s .args .words + n s)) (block-words (taps s) (level s) (r .part-words .last .1 .1 .1 .1 .1 .1 .1 .0) (n s) (λ i. i % 2 * 32 + i / 2) (block-inside s) (words-are r)),
+          ∙ ap (overwrite (store s) (s .args .start + s .args .words + n s)) (block-words (taps s) (level s) (r .part-words .last .1 .1 .1 .1 .1 .1 .1 .0) (n s) (λ i. i % 2 * 32 + i / 2) (here s .inside) (words-are r)),
       (u w .split-upper .ensures .1, w .split-lower .ensures .1, r .part-words .ensures .1 .0, r .part-words .ensures .1 .1),
     )
 

@@ -8,11 +8,9 @@ use lib.IntN.{ℤ}
 use lib.ListN.{length}
 use Rattle.arith.specs.Floor.{near}
 use Rattle.arith.specs.Lists.{at, part, overwrite}
-use Rattle.arith.proofs.Lists.{part-length}
 use Rattle.pair_sums.specs.Pairs.{samplePart, shift}
-use Rattle.octave.specs.Octave.{halfLength, levelSum}
-use Rattle.octave.proofs.Octave.{halfLength-holds}
-use Rattle.octave.proofs.PairSums.{sample-small, lent-at, block-words}
+use Rattle.octave.specs.Octave.{levelSum}
+use Rattle.octave.proofs.PairSums.{sample-small, Block, block, block-words}
 use Rattle.octave.proofs.BandSums.{band-small, band-samples}
 use Rattle.octave.proofs.half_band.sample_block.Statement.{statement}
 use Rattle.octave.proofs.half_band.sample_block.Tie as tie
@@ -33,22 +31,8 @@ module _ (s : tie.Start) where
   abbrev n : ℕ
   n = s .args .n
 
-  abbrev first : ℕ
-  first = s .args .start + 2 * n + 1 - 2 * (length taps / 2)
-
-  abbrev behind : ℕ
-  behind = s .args .start + s .args .words - first
-
-  length-lent : length (part store first behind) ≡ behind
-  length-lent = part-length store first behind (omega arith)
-
-  lent : (i : ℕ) → i < behind → at (part store first behind) i ≡ at level (2 * n + 1 - 2 * (length taps / 2) + i)
-  lent = lent-at store (s .args .start) (s .args .words) n (2 * (length taps / 2)) (omega arith)
-
-  block-inside : n + 64 ≤ halfLength (length level)
-  block-inside =
-      let e = part-length store (s .args .start) (s .args .words) (omega arith) in
-      omega (arith, halfLength-holds (length level) (n + 63) (omega (arith, e)))
+  here : Block store (s .args .start) (s .args .words) n (2 * (length taps / 2))
+  here = block store (s .args .start) (s .args .words) n (2 * (length taps / 2)) (omega arith) (omega arith) (omega arith)
 
 -- the words in one part
 module _ (w : tie.After-split-samples) where
@@ -60,7 +44,7 @@ module _ (w : tie.After-split-samples) where
 
   staged : (i : ℕ) → i < 2 * (length (taps s) / 2) + 64
       → (at highs i ≡ samplePart (at (level s) (2 * n s + 1 - 2 * (length (taps s) / 2) + 2 * i))) × (at highs (104 + i) ≡ samplePart (at (level s) (2 * n s + 1 - 2 * (length (taps s) / 2) + (2 * i + 1))))
-  staged i l = let e = w .split-samples .ensures .0 i (omega arith) in (e .0 ∙ ap samplePart (lent s (2 * i) (omega arith)), e .1 ∙ ap samplePart (lent s (2 * i + 1) (omega arith)))
+  staged i l = let e = w .split-samples .ensures .0 i (omega arith) in (e .0 ∙ ap samplePart (here s .lent-at (2 * i) (omega (arith, here s .lent-length))), e .1 ∙ ap samplePart (here s .lent-at (2 * i + 1) (omega (arith, here s .lent-length))))
 
 -- the words
 module _ (r : tie.After-sample-words) where
@@ -124,7 +108,7 @@ mul-split-samples-3 c = search needs
 
 split-samples-requires : tie.Need-split-samples-requires
 split-samples-requires c κs = let s = c .before .before .before in
-    (omega (arith, length-lent s), omega arith, s .pre .1 .1 .0)
+    (omega (arith, here s .lent-length), omega arith, s .pre .1 .1 .0)
 
 add-sample-words : tie.Need-add-sample-words
 add-sample-words c = search needs
@@ -148,7 +132,7 @@ returns c = let r = c .before .before .before .before in
     let w = w r in
     let s = s w in (
       c .before .mix-words .ensures
-          ∙ ap (overwrite (store s) (s .args .start + s .args .words + n s)) (block-words (taps s) (level s) (r .sample-words .last .1 .1 .1 .1 .1 .1 .0) (n s) (λ i. i % 2 * 32 + i / 2) (block-inside s) (words-are r)),
+          ∙ ap (overwrite (store s) (s .args .start + s .args .words + n s)) (block-words (taps s) (level s) (r .sample-words .last .1 .1 .1 .1 .1 .1 .0) (n s) (λ i. i % 2 * 32 + i / 2) (here s .inside) (words-are r)),
       (w .split-samples .ensures .1, r .sample-words .ensures .1),
     )
 
