@@ -131,7 +131,7 @@ pub fn decimation_taps(book: &[i32]) -> &[i32]
 
 // Whether taps are half-band: those at an even distance from the centre are 0.
 pub fn half_band(taps: &[i32]) -> bool
-    ensures { λ r. ⌜ (r ≡ true → HalfBand (now (taps .entry))) ⌝ }
+    ensures { λ r. ⌜ (r ≡ true → HalfBand (now (taps .entry))) × (HalfBand (now (taps .entry)) → r ≡ true) ⌝ }
 {
     let mut k = 2;
     while k < taps.len() {

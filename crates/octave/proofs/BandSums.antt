@@ -17,7 +17,7 @@ use Rattle.book.specs.Inner.{HalfBand}
 use Rattle.pair_sums.specs.Pairs.{upperPart, lowerPart, samplePart, Samples, placeOf, shift, lineSum, Small}
 use Rattle.octave.specs.Octave.{levelSum}
 use Rattle.octave.specs.Inner.{BandRows}
-use Rattle.octave.proofs.PairSums.{by-parts, by-samples, lines, lines-small, same-tap}
+use Rattle.octave.proofs.PairSums.{by-parts, by-samples, lines, lines-small, suc-pred, same-tap}
 
 -- ---- a sum around 0, of what is 0 at all other even places, and of sizes
 
@@ -25,17 +25,21 @@ module _ (f : ℤ → ℤ) (none : (e : ℕ) → (f (pos (2 * e + 2)) ≡ pos 0)
   abbrev odd : ℕ → ℕ → ℤ
   odd q c = f (pos (2 * c + 1) -ℤ pos (2 * suc q))
 
+  -- an even place adds nothing
+  even-more : (q : ℕ) → sumAround (suc (2 * q + 1)) f ≡ sumAround (2 * q + 1) f
+  unfolding sumAround
+  even-more q = ap (λ z. sumAround (2 * q + 1) f +ℤ z) (ap₂ _+ℤ_ (none q .1) (ap f (ap pos (omega arith)) ∙ none q .0)) ∙ same (sumAround (2 * q + 1) f)
+    where
+      same : (x : ℤ) → x +ℤ (pos 0 +ℤ pos 0) ≡ x
+      same x = simp linear (omega arith)
+
   -- the two places behind an odd one
   two-more : (q : ℕ) → sumAround (2 * suc q + 1) f ≡ sumAround (2 * q + 1) f +ℤ (f (negsuc (2 * q + 2)) +ℤ f (pos (2 * q + 3)))
   unfolding sumAround
   two-more q =
       let e : 2 * suc q + 1 ≡ suc (suc (2 * q + 1)) = omega arith in
       ap (λ z. sumAround z f) e
-      ∙ ap₂ (λ x y. x +ℤ y) (ap (λ z. sumAround (2 * q + 1) f +ℤ z) (ap₂ _+ℤ_ (none q .1) (ap f (ap pos (omega arith)) ∙ none q .0)) ∙ same (sumAround (2 * q + 1) f))
-      (ap₂ _+ℤ_ (ap f (ap negsuc (omega arith))) (ap f (ap pos (omega arith))))
-    where
-      same : (x : ℤ) → x +ℤ (pos 0 +ℤ pos 0) ≡ x
-      same x = simp linear (omega arith)
+      ∙ ap₂ _+ℤ_ (even-more q) (ap₂ _+ℤ_ (ap f (ap negsuc (omega arith))) (ap f (ap pos (omega arith))))
 
   ends : (q : ℕ) → sum (2 * suc (suc q)) (odd (suc q)) ≡ f (negsuc (2 * q + 2)) +ℤ (sum (2 * suc q) (odd q) +ℤ f (pos (2 * q + 3)))
   ends q =
@@ -86,6 +90,9 @@ module _ (g : ℕ → ℕ) where
 
 -- ---- the taps, the centre's pair first
 
+zero-* : (x : ℤ) → pos 0 *ℤ x ≡ pos 0
+zero-* x = simp linear (omega arith)
+
 unfoldable pub band-tap : List ℤ → ℕ → ℤ
 band-tap h zero = at h 0
 band-tap h (suc zero) = pos 0
@@ -96,9 +103,6 @@ unfoldable pub band-word : List ℤ → List ℤ → ℕ → ℕ → ℕ → ℤ
 band-word h level n i zero = at level (2 * (n + i))
 band-word h level n i (suc zero) = at level (2 * (n + i) + 2)
 band-word h level n i (suc (suc c)) = at level (2 * n + 1 - 2 * (length h / 2) + (2 * i + 2 * c))
-
-suc-pred : (n : ℕ) → 1 ≤ n → suc (pred n) ≡ n
-suc-pred n l = omega arith
 
 module _ (h : List ℤ) (some : 2 ≤ length h) where
   abbrev half : ℕ
@@ -130,27 +134,18 @@ module _ (h : List ℤ) (some : 2 ≤ length h) where
         let d : suc (2 * e + 1) ≡ 2 * e + 2 = omega arith in
         (nothing (at h (2 * e + 2)) (wordAt level (pos (2 * (n + i)) +ℤ pos (2 * e + 2))) (zeros e), nothing (at h (suc (2 * e + 1))) (wordAt level (pos (2 * (n + i)) +ℤ negsuc (2 * e + 1))) (ap (at h) d ∙ zeros e))
       where
-        zero-* : (x : ℤ) → pos 0 *ℤ x ≡ pos 0
-        zero-* x = simp linear (omega arith)
-
         nothing : (t x : ℤ) → t ≡ pos 0 → t *ℤ x ≡ pos 0
         nothing t x p = ap (λ z. z *ℤ x) p ∙ zero-* x
 
     -- a last tap at an even distance adds nothing
     whole : sumAround (pred (length h)) around-it ≡ sumAround (2 * q + 1) around-it
-    unfolding sumAround
     whole = go (ℕ-discrete (length h % 2) 0)
       where
-        same : (x : ℤ) → x +ℤ (pos 0 +ℤ pos 0) ≡ x
-        same x = simp linear (omega arith)
-
         go : Dec (length h % 2 ≡ 0) → sumAround (pred (length h)) around-it ≡ sumAround (2 * q + 1) around-it
         go (yes e) = let p : pred (length h) ≡ 2 * q + 1 = omega (arith, half-is) in ap (λ z. sumAround z around-it) p
         go (no e) =
             let p : pred (length h) ≡ suc (2 * q + 1) = omega (arith, half-is) in
-            ap (λ z. sumAround z around-it) p
-            ∙ ap (λ z. sumAround (2 * q + 1) around-it +ℤ z) (ap₂ _+ℤ_ (none q .1) (let d : suc (2 * q + 1) ≡ 2 * q + 2 = omega arith in ap (λ z. around-it (pos z)) d ∙ none q .0))
-            ∙ same (sumAround (2 * q + 1) around-it)
+            ap (λ z. sumAround z around-it) p ∙ even-more around-it none q
 
     abbrev term : ℕ → ℤ
     term c = band-tap h c *ℤ band-word h level n i c
@@ -168,9 +163,6 @@ module _ (h : List ℤ) (some : 2 ≤ length h) where
     second : term 1 ≡ pos 0
     unfolding band-tap
     second = zero-* (band-word h level n i 1)
-      where
-        zero-* : (x : ℤ) → pos 0 *ℤ x ≡ pos 0
-        zero-* x = simp linear (omega arith)
 
     pub band-sum : sum (2 * (half + 1)) term ≡ levelSum h level (n + i)
     unfolding levelSum

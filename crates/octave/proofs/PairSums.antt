@@ -125,7 +125,7 @@ module _ (rows : List ℤ) (m : ℕ) (t : ℕ → ℤ) (weight : total (2 * m) (
 
 -- ---- taps in the order of time
 
-suc-pred : (n : ℕ) → 1 ≤ n → suc (pred n) ≡ n
+pub suc-pred : (n : ℕ) → 1 ≤ n → suc (pred n) ≡ n
 suc-pred n l = omega arith
 
 module _ (h : List ℤ) (small : tapSum h ≤ 32768) (narrow : at h 0 <ℤ pos 32768) (some : 1 ≤ length h) where
@@ -223,11 +223,17 @@ module _ (store : List ℤ) (start words n count : ℕ) where
   abbrev pub level : List ℤ
   level = part store start words
 
+  abbrev from : ℕ
+  from = start + 2 * n + 1 - count
+
+  abbrev behind : ℕ
+  behind = start + words - from
+
   abbrev pub lent : List ℤ
-  lent = part store (start + 2 * n + 1 - count) (start + words - (start + 2 * n + 1 - count))
+  lent = part store from behind
 
   pub record Block : Type 0 where
-    pub lent-length : length lent ≡ start + words - (start + 2 * n + 1 - count)
+    pub lent-length : length lent ≡ behind
     pub lent-at : (i : ℕ) → i < length lent → at lent i ≡ at level (2 * n + 1 - count + i)
     pub lent-small : (c : ℕ) → ((k : ℕ) → natAbs (at level k) ≤ c) → (i : ℕ) → natAbs (at lent i) ≤ c
     pub inside : n + 64 ≤ halfLength (length level)
@@ -241,13 +247,13 @@ module _ (store : List ℤ) (start words n count : ℕ) where
     inside = let e = part-length store start words all in omega (arith, halfLength-holds (length level) (n + 63) (omega (arith, e)));
   }
     where
-      long : length lent ≡ start + words - (start + 2 * n + 1 - count)
-      long = part-length store (start + 2 * n + 1 - count) (start + words - (start + 2 * n + 1 - count)) (omega arith)
+      long : length lent ≡ behind
+      long = part-length store from behind (omega arith)
 
       word : (i : ℕ) → i < length lent → at lent i ≡ at level (2 * n + 1 - count + i)
       word i l =
-          let e : start + 2 * n + 1 - count + i ≡ start + (2 * n + 1 - count + i) = omega arith in
-          at-part store (start + 2 * n + 1 - count) (start + words - (start + 2 * n + 1 - count)) i (omega (arith, long)) ∙ ap (at store) e ∙ sym (at-part store start words (2 * n + 1 - count + i) (omega (arith, long)))
+          let e : from + i ≡ start + (2 * n + 1 - count + i) = omega arith in
+          at-part store from behind i (omega (arith, long)) ∙ ap (at store) e ∙ sym (at-part store start words (2 * n + 1 - count + i) (omega (arith, long)))
 
       go : (c : ℕ) → ((k : ℕ) → natAbs (at level k) ≤ c) → (i : ℕ) → Dec (i < length lent) → natAbs (at lent i) ≤ c
       go c small i (yes l) = rw (word i l) (small (2 * n + 1 - count + i))

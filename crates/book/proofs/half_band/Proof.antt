@@ -1,7 +1,7 @@
 -- `book::half_band` meets its contract. The loop's invariant: k is even, and the taps passed at an even distance are 0. Assumes nothing.
-use mathlib.Core.Path.{_≡_, refl, ap, _∙_}
+use mathlib.Core.Path.{_≡_, refl, sym, ap, _∙_}
 use mathlib.Core.List.{List}
-use Prim.Native.Nat.{ℕ, _+_, _-_, _*_, _%_, _≤_, _<_}
+use Prim.Native.Nat.{ℕ, _+_, _-_, _*_, _/_, _%_, _≤_, _<_}
 use native.Mathlib.Decide.{decLt}
 use native.Mathlib.Omega.{arith}
 use borrow.Author.Needs.{needs}
@@ -28,13 +28,13 @@ zero-at taps k e before rest = go (decLt (2 * e + 2) k)
     go (no l) = rest (omega arith)
 
 abbrev Inv-loop : tie.InvT-loop
-Inv-loop taps k₀ k = (k ≤ length taps + 4) × (k % 2 ≡ 0) × Passed taps k
+Inv-loop taps k₀ k = (k ≤ length taps + 4) × (2 ≤ k) × (k % 2 ≡ 0) × Passed taps k
 
 abbrev μ-loop : tie.MeasureT-loop
 μ-loop taps k₀ k = length taps + 4 - k
 
 loop-holds : tie.Need-loop-holds Inv-loop μ-loop
-loop-holds c = (omega arith, refl, λ e l. absurd (omega arith))
+loop-holds c = (omega arith, omega arith, refl, λ e l. absurd (omega arith))
 
 mul-if1 : tie.Need-mul-if1 Inv-loop μ-loop
 mul-if1 c = search needs
@@ -43,7 +43,13 @@ shared-slice-copy-out-if1 : tie.Need-shared-slice-copy-out-if1 Inv-loop μ-loop
 shared-slice-copy-out-if1 c = search needs
 
 returns : tie.Need-returns Inv-loop μ-loop
-returns c e = let z : _≡_ {A = ℕ} 0 1 = cc in absurd (omega arith)
+returns c =
+    let a = c .before .before .before in
+    let taps : List ℤ = a .before .args .taps .now in
+    let k : ℕ = a .loop .k in
+    let fits : SFits w32 (at taps k) = record { sfits = c .before .if12 .given } in
+    let i : 2 * (k / 2 - 1) + 2 ≡ k = omega (arith, a .loop .inv .1, a .loop .inv .2) in
+    (λ e. let z : _≡_ {A = ℕ} 0 1 = cc in absurd (omega arith), λ h. absurd (c .if1 .taken (bits-zero w32 (at taps k) fits .1 (sym (ap (at taps) i) ∙ h (k / 2 - 1)))))
 
 add-k : tie.Need-add-k Inv-loop μ-loop
 add-k c = search needs
@@ -58,13 +64,13 @@ loop-again c =
     let k : ℕ = a .loop .k in
     let fits : SFits w32 (at taps k) = record { sfits = c .before .if12 .given } in
     let none : at taps k ≡ pos 0 = bits-zero w32 (at taps k) fits .0 (c .if1 .left) in
-    (omega arith, omega arith, λ e l. zero-at taps k e (a .loop .inv .2) (λ m. let i : 2 * e + 2 ≡ k = omega (arith, a .loop .inv .1) in ap (at taps) i ∙ none))
+    (omega arith, omega arith, omega arith, λ e l. zero-at taps k e (a .loop .inv .3) (λ m. let i : 2 * e + 2 ≡ k = omega (arith, a .loop .inv .2) in ap (at taps) i ∙ none))
 
 returns-2 : tie.Need-returns-2 Inv-loop μ-loop
-returns-2 c r e =
+returns-2 c =
     let a = c .before in
     let taps : List ℤ = a .before .args .taps .now in
-    zero-at taps (a .loop .k) e (a .loop .inv .2) (λ m. at-outside taps (2 * e + 2) (omega arith))
+    (λ r e. zero-at taps (a .loop .k) e (a .loop .inv .3) (λ m. at-outside taps (2 * e + 2) (omega arith)), λ h. refl)
 
 pub half-band-spec : {M : Type 1} → statement M
 half-band-spec =

@@ -7,7 +7,7 @@ half-band-requires : tie.Need-half-band-requires
 half-band-requires c κs = tt
 
 returns : tie.Need-returns
-returns c = record { low = omega arith; high = omega arith; even = λ e. c .before .half-band .ensures (c .if1 .taken) }
+returns c = record { low = omega arith; high = omega arith; even = λ e. c .before .half-band .ensures .0 (c .if1 .taken) }
 
 returns-2 : tie.Need-returns-2
 returns-2 c = record { low = omega arith; high = omega arith; even = λ e. absurd (omega arith) }

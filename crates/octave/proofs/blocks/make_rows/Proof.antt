@@ -23,7 +23,7 @@ write-band-rows-requires : tie.Need-write-band-rows-requires
 write-band-rows-requires c κs = let s = c .before .before .before .before in (omega arith, s .pre .1, s .pre .2, s .pre .3)
 
 returns-3 : tie.Need-returns-3
-returns-3 c = let e = c .before .before in (omega arith, e .before .half-band .ensures (not-false (e .before .half-band .result) (e .if2 .left)), c .write-band-rows .ensures)
+returns-3 c = let e = c .before .before in (omega arith, e .before .half-band .ensures .0 (not-false (e .before .half-band .result) (e .if2 .left)), c .write-band-rows .ensures)
 
 pub make-rows-spec : {M : Type 1} → statement M
 make-rows-spec =
