@@ -1,4 +1,6 @@
 // The bench program: cases A, B, C, D and G of document 01, a line each.
+
+#![tactic(auto)]
 use control::{Card, Order};
 use player::Voice;
 

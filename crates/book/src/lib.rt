@@ -1,6 +1,8 @@
 // The filter book: five sizes, impulses and differences by phase, level taps and decimation taps, as signed words.
 // `check` accepts a book or gives the number that turns it away.
 
+#![tactic(auto)]
+
 ghost use Rattle.std.specs.Prelude.{◌≡◌, ◌*◌, ◌≤◌, true, not, length, pos};
 ghost use Rattle.arith.specs.Tests.{eq_z};
 ghost use Rattle.book.specs.Number.{refuse, ◌otherwise◌};

@@ -1,5 +1,7 @@
 // What moves a voice: rates, the glide, the fade and the position. Nothing here looks at a point.
 
+#![tactic(auto)]
+
 pub mod moves; // the glide before an output, the fade and the position at each point
 pub mod rate; // rates as f32, the asked level, the position's advance
 

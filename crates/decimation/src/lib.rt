@@ -1,5 +1,7 @@
 // Outputs from a line of points, newest first.
 
+#![tactic(auto)]
+
 ghost use Rattle.std.specs.Prelude.{◌≡◌, ℕ, ◌+◌, ◌-◌, ◌*◌, ◌^◌, ◌≤◌, ◌<◌, nat_abs, ◌+ℤ◌, ◌*ℤ◌, length, set};
 ghost use Rattle.arith.specs.Lists.{at, part, tabulate, overwrite};
 ghost use Rattle.book.specs.Book.{decimation_taps};

@@ -1,6 +1,8 @@
 // Sums of 16-bit products, and the values that they make. The width of a row is a constant where a loop is called, and no two sums of one loop read
 // the same numbers: only then does the compiler take eight products at a time.
 
+#![tactic(auto)]
+
 ghost use Rattle.std.specs.Prelude.{◌≡◌, ℕ, suc, ◌-◌, ◌%◌, ◌^◌, ◌≤◌, ◌<◌, pos, ◌*ℤ◌, length, get_or};
 ghost use Rattle.arith.specs.Lists.{at, tabulate, overwrite};
 ghost use Rattle.dot_products.specs.Sums.{dot_sum, Summable, Readable, sum_here, sum_next, mixed_value, PartSums, parts_value};

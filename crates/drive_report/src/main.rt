@@ -1,6 +1,8 @@
 // The drive report of document 02, (f): reads a drive's text from standard input, plays it on the test drive's hum, book and opening, and prints a
 // line for each accepted play. `stdin` is a drive, and `stdout` has the text of rust/renderer, a renderer of other authorship.
 
+#![tactic(auto)]
+
 ghost use Rattle.io.specs.Counts.{IsPrefixLen};
 
 use player::Voice;

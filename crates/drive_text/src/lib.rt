@@ -1,5 +1,7 @@
 // The text of a drive: bytes to lines to calls. A line is read a byte at a time, so that it may come in pieces.
 
+#![tactic(auto)]
+
 ghost use Rattle.std.specs.Prelude.{true, ◌≡◌, min};
 ghost use Rattle.drive_text.specs.Numbers.{is_digit};
 ghost use Rattle.drive_text.specs.Inner.{next_number, next_word, next_scan, is_begun, scanned_line};

@@ -1,6 +1,8 @@
 // Facts of the book's check, the level builder and the store's check that documents 01 and 02 state and do not star: every number of theirs, the
 // first of two that hold at once, and what a store holds afterwards. One line each.
 
+#![tactic(auto)]
+
 // Document 01's book K.
 const K: [i32; 11] = [2, 1, 0, 0, 1, 0, 16384, 16384, -16384, 16384, 16384];
 

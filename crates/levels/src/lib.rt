@@ -1,5 +1,7 @@
 // The octave levels of a recording, and the builder that writes them into a store. Nothing here knows a voice.
 
+#![tactic(auto)]
+
 ghost use Rattle.std.specs.Prelude.{◌≡◌};
 ghost use Rattle.levels.specs.Build.{built, build_number, build_answer};
 

@@ -1,6 +1,8 @@
 // A long drive: 250 blocks of 4000 outputs of a hum, with a book of N = 12, M = 64, A = 40, B = 10, F = 64 and the levels 0 to 2. Before a
 // block it jumps, glides or seeks, each once in eight blocks. It prints a check number of the million samples, and the last two. `stdout` has
 // what rust/renderer, a renderer of other authorship, computes from the same drive.
+
+#![tactic(auto)]
 ghost use Rattle.std.specs.Prelude.{◌≤◌};
 
 use control::{Card, Order};

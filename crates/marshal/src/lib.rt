@@ -2,6 +2,8 @@
 // and writes the voice back. A refusal writes nothing, but that opening writes the zero record and play a multiply count of 0. Number 28
 // is for a voice slice of another length, and comes before all others.
 
+#![tactic(auto)]
+
 ghost use Rattle.std.specs.Prelude.{◌≡◌, length};
 ghost use Rattle.control.specs.declared.Order.TheVariants.{Jump, Glide};
 ghost use Rattle.player.specs.Calls.{order_answer, seek_answer};

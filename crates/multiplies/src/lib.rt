@@ -1,5 +1,7 @@
 // The multiply count of a block of outputs: its level values are counted along its runs, and taken times their multiplies at its end.
 
+#![tactic(auto)]
+
 ghost use Rattle.std.specs.Prelude.{◌≡◌, ◌+◌, ◌*◌, ◌≤◌};
 ghost use Rattle.multiplies.specs.Multiplies.{values_made};
 

@@ -1,5 +1,7 @@
 // An octave level from the one below it: each word is a sum over the level taps, centred on every second word.
 
+#![tactic(auto)]
+
 ghost use Rattle.std.specs.Prelude.{◌≡◌, ℕ, ◌+◌, ◌*◌, ◌^◌, ◌≤◌, ◌<◌, pred, pos, nat_abs, ◌+ℤ◌, ◌-ℤ◌, ◌*ℤ◌, length};
 ghost use Rattle.arith.specs.Lists.{at, word_at, part, overwrite};
 ghost use Rattle.arith.specs.Sum.{sum_around};

@@ -1,6 +1,8 @@
 // Sixty-four sums at a time of 16-bit words times pairs of 16-bit numbers, and the words that they make. Each sum begins two words after the one before
 // it, so that the processor takes the products of four with a pair from eight words in a row, and adds them two by two, in one step.
 
+#![tactic(auto)]
+
 ghost use Rattle.std.specs.Prelude.{◌≡◌, ℕ, ◌+◌, ◌*◌, ◌^◌, ◌≤◌, ◌<◌, pos, nat_abs, ◌+ℤ◌, ◌*ℤ◌, length};
 ghost use Rattle.arith.specs.Floor.{near};
 ghost use Rattle.arith.specs.Lists.{at};

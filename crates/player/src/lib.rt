@@ -1,5 +1,7 @@
 // The driving-tone player. A voice goes from state to state by `Voice::open`, `order`, `seek` and `play`.
 
+#![tactic(auto)]
+
 use control::Control;
 
 mod calls; // open, order, seek and play

@@ -1,6 +1,8 @@
 // Facts of the player that documents 01 and 02 state and do not star: glides, limits, the levels along a glide and the ends of their bands,
 // the multiply counts of outputs, and every number of every call, with the first of two that hold at once. Of a number, a line each: what is
 // called, the number, whether the voice came back as it was, and of a play its multiply count.
+
+#![tactic(auto)]
 use control::{Card, Order};
 use player::{Answer, Voice};
 

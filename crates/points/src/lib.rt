@@ -1,6 +1,8 @@
 // Points of a run of outputs, written to a line of points, newest first. The history stands at place 128 of the line; the points of a run come
 // before it.
 
+#![tactic(auto)]
+
 ghost use Rattle.std.specs.Prelude.{◌≡◌, ◌-◌, ◌*◌, ◌≤◌, length};
 ghost use Rattle.arith.specs.Lists.{overwrite};
 ghost use Rattle.values.specs.Layout.{LayoutOf};

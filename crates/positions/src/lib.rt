@@ -1,5 +1,7 @@
 // The positions of a run of outputs, all without a fade or all inside one: P, the rate and the fade's step move along it.
 
+#![tactic(auto)]
+
 ghost use Rattle.std.specs.Prelude.{◌≡◌, ℕ, ◌+◌, ◌*◌, ◌^◌, ◌≤◌, ◌<◌, length, get_or};
 ghost use Rattle.control.specs.Valid.{Valid};
 ghost use Rattle.control.specs.Moves.{move_glide, point_plan};

@@ -1,5 +1,7 @@
 // Writes numbers to standard output.
 
+#![tactic(auto)]
+
 // A decimal number, with a minus sign below zero.
 pub fn integer(x: i32) {
     if x < 0 {

@@ -1,6 +1,8 @@
 // Eight recorded drives, printed as lines of text. `stdout` has the lines that a renderer of other authorship writes for them: it never
 // comes from the player. `stdout` and the modules drive_* are made by rust/drives (its module `rattle`), one module for a random seed.
 
+#![tactic(auto)]
+
 mod calls; // a drive's calls
 mod drive; // a drive
 mod drive_19505;

@@ -1,5 +1,7 @@
 // The numbers of the calls, each call's in its order.
 
+#![tactic(auto)]
+
 ghost use Rattle.std.specs.Prelude.{◌≡◌, ◌≤◌};
 ghost use Rattle.refusals.specs.Refusals.{point_bound, levels_wrong, levels_number, fade_wrong, rate_wrong, glide_wrong, history_wrong, late_number, open_number, order_number, seek_number, play_state_number, play_number};
 

@@ -1,6 +1,8 @@
 // The drive report: the lines of a drive's text, played on a book and a store, and what they print. Input comes in pieces, and a line may be
 // cut anywhere between two of them.
 
+#![tactic(auto)]
+
 use drive_text::Scan;
 use player::Voice;
 

@@ -1,5 +1,7 @@
 // Facts of the rounding rule that document 02 (g) states and does not star: ties in each of its four places, above and below zero. A line each
 // of a level's words, of values in each of the three ways in which the player makes them, of points in a fade, and of outputs.
+
+#![tactic(auto)]
 use control::{Card, Order};
 use player::Voice;
 

@@ -1,6 +1,8 @@
 // A book's impulses in rows of 16-bit words, made once per call. Row q has the impulses of phase q, for q = 0 .. M, and 0 behind them: a row is 8, 16
 // or 32 words wide, so that the compiler takes its products eight at a time.
 
+#![tactic(auto)]
+
 ghost use Rattle.std.specs.Prelude.{true, ◌⊎◌, ◌≡◌, ℕ, ◌+◌, ◌-◌, ◌*◌, ◌%◌, ◌≤◌, ◌<◌, pos, negsuc, length, ◌≤ℤ◌};
 ghost use Rattle.arith.specs.Limit.{limit};
 ghost use Rattle.arith.specs.Lists.{at};

@@ -1,6 +1,8 @@
 // The level store: a header of S, T and the lengths of its levels, then levels 0..T, as signed words. `check` accepts a store or gives the
 // number that turns it away.
 
+#![tactic(auto)]
+
 ghost use Rattle.std.specs.Prelude.{◌≡◌, ◌+◌, ◌≤◌, ◌<◌, pos, length};
 ghost use Rattle.arith.specs.Lists.{at};
 ghost use Rattle.arith.specs.Tests.{eq_z};

@@ -1,5 +1,7 @@
 // The test drive of document 02, (b): 64 orders drawn from the stream of the test hum, 20 outputs after each. It prints the samples played, one a
 // line. `stdout` has the text of rust/renderer, a renderer of other authorship.
+
+#![tactic(auto)]
 use player::Voice;
 use test_setting::Setting;
 use test_setting::orders::next_order;

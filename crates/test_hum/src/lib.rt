@@ -1,5 +1,7 @@
 // The test hum: a recording that anyone can make again, drawn from a linear congruential generator of 32 bits.
 
+#![tactic(auto)]
+
 ghost use Rattle.std.specs.Prelude.{◌≡◌, ◌*◌, ◌%◌, ◌^◌, length};
 ghost use Rattle.test_hum.specs.Hum.{next_state, sample_of, drawn, draw_answer};
 

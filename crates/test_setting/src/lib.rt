@@ -1,6 +1,8 @@
 // The setting of the test drive: the test hum as a recording, book K with F 16, a voice opened at rate 1 with T 2, and the orders that are
 // drawn from the same stream as the samples.
 
+#![tactic(auto)]
+
 ghost use Rattle.std.specs.Prelude.{◌≡◌, length};
 ghost use Rattle.test_hum.specs.Hum.{state_after};
 ghost use Rattle.test_setting.specs.Setting.{test_store, test_setting};

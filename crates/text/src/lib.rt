@@ -1,5 +1,7 @@
 // Text in a lent slice: bytes and decimal numbers are written behind what stands there already.
 
+#![tactic(auto)]
+
 ghost use Rattle.std.specs.Prelude.{◌≡◌, ◌++◌, ◌∷◌, ◌+◌, ◌≤◌, length, take};
 ghost use Rattle.text.specs.Decimal.{decimal};
 

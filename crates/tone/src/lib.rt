@@ -1,6 +1,8 @@
 // The player's archive, for C and Rust: the calls of `marshal`, and the store's check, under the names that it exports. Building levels is
 // `tone_builder`'s.
 
+#![tactic(auto)]
+
 ghost use Rattle.std.specs.Prelude.{◌≡◌};
 ghost use Rattle.control.specs.declared.Order.TheVariants.{Jump, Glide};
 ghost use Rattle.player.specs.Calls.{order_answer, seek_answer};

@@ -1,6 +1,8 @@
 // The level builder's archive, for C and Rust: what a studio needs to test a book and to build the levels of a recording, and the test hum.
 // Nothing here knows a voice.
 
+#![tactic(auto)]
+
 ghost use Rattle.std.specs.Prelude.{◌≡◌, length};
 ghost use Rattle.book.specs.Check.{book_number};
 ghost use Rattle.levels.specs.Build.{built, build_answer};

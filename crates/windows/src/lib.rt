@@ -1,3 +1,5 @@
+#![tactic(auto)]
+
 mod parts; // words in 16-bit parts
 mod staging; // the words that a run reads
 mod places; // where each value's coefficients and words begin

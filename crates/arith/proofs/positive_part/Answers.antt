@@ -10,15 +10,15 @@ use mir.Syntax.{w32}
 use mir.Val.{SFits}
 use Rattle.arith.proofs.Bits.{reads}
 use Rattle.arith.proofs.Linear.{linear}
-use Rattle.arith.proofs.positive_part.Statement.{statement}
-use Rattle.arith.proofs.positive_part.Tie as tie
+use Rattle.arith.proofs.positive_part.Goals as goal
+use Rattle.arith.proofs.positive_part.Goals.{Start}
 
 -- what holds of −1 where x is below 0, and of 0 elsewhere, holds of the shift
 sign_ind : (x : ℤ) → SFits w32 x → (P : ℤ → Type 0) → (lt_z x (pos 0) ≡ true → P (negsuc 0)) → (lt_z x (pos 0) ≡ false → P (pos 0)) → P (shr_z x (2 ^ 31))
 sign_ind (pos n) f P below above = subst P (sym (ap pos (div-eq_of_lt f.sfits))) (above (simp linear (omega arith)))
 sign_ind (negsuc n) f P below above = subst P (sym (ap negsuc (div-eq_of_lt f.sfits))) (below refl)
 
-module _ (c : tie.Start) where
+module _ (c : Start) where
   abbrev x : ℤ
   x = c.args.x
 
@@ -46,17 +46,14 @@ module _ (c : tie.Start) where
       sign_ind x c.ranges.x (λ s. SFits w32 (x -ℤ x *ℤ (pos 0 -ℤ s)))
       (λ e. simp linear (omega arith)) (λ e. simp linear (omega (arith, simp linear at c.ranges.x)))
 
-sub-result : tie.Need-overflow-sub-result
-sub-result c = simp (reads, c.ranges.x, sign_fits c) (factor_fits c)
+pub overflow_sub-result : goal.overflow_sub-result
+overflow_sub-result c = simp (reads, c.ranges.x, sign_fits c) (factor_fits c)
 
-mul-result : tie.Need-overflow-mul-result
-mul-result c = simp (reads, c.ranges.x, sign_fits c, factor_fits c) (product-fits c)
+pub overflow_mul-result : goal.overflow_mul-result
+overflow_mul-result c = simp (reads, c.ranges.x, sign_fits c, factor_fits c) (product-fits c)
 
-sub-result-2 : tie.Need-overflow-sub-result-2
-sub-result-2 c = simp (reads, c.ranges.x, sign_fits c, factor_fits c, product-fits c) (result_fits c)
+pub overflow_sub-result-2 : goal.overflow_sub-result-2
+overflow_sub-result-2 c = simp (reads, c.ranges.x, sign_fits c, factor_fits c, product-fits c) (result_fits c)
 
-returns : tie.Need-returns
+pub returns : goal.returns
 returns c = simp (reads, c.ranges.x, sign_fits c, factor_fits c, product-fits c, result_fits c) (result-is c)
-
-pub positive-part-spec : {M : Type 1} → statement M
-positive-part-spec = tie.close (tie.spec sub-result mul-result sub-result-2 returns)

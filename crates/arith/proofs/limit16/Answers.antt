@@ -1,7 +1,6 @@
 -- `arith::limit16` meets its contract: the limit by two positive parts, at the ends of 16 bits. Assumes nothing.
 use mathlib.Core.Path.{◌≡◌}
 use native.Mathlib.Omega.{arith}
-use borrow.Author.Rules.{rules}
 use lib.IntN.{ℤ, pos, negsuc, ◌-ℤ◌}
 use lib.Signed.{◌≤ℤ◌, le_z_yes}
 use mir.Syntax.{w16, w32}
@@ -11,8 +10,8 @@ use Rattle.arith.specs.Limit.{limit}
 use Rattle.arith.proofs.Bits.{reads}
 use Rattle.arith.proofs.Limit.{Positive, positive, not_below_0, limit_by_parts, limit_between}
 use Rattle.arith.proofs.Linear.{linear}
-use Rattle.arith.proofs.limit16.Statement.{statement}
-use Rattle.arith.proofs.limit16.Tie as tie
+use Rattle.arith.proofs.limit16.Goals as goal
+use Rattle.arith.proofs.limit16.Goals.{After-positive_part-left, After-positive_part-risen, Start}
 
 abbrev low : ℤ
 low = negsuc 32767
@@ -23,35 +22,35 @@ high = pos 32767
 ends : low ≤ℤ high
 ends = le_z_yes tt
 
-module _ (c : tie.Start) where
+module _ (c : Start) where
   abbrev x : ℤ
   x = c.args.x
 
   height_fits : SFits w32 (x -ℤ low)
   height_fits = simp linear (omega (arith, simp linear at c.requires))
 
-module _ (c : tie.After-positive-part) where
+module _ (c : After-positive_part-risen) where
   abbrev risen : ℤ
-  risen = c.positive-part.result
+  risen = c.positive_part-risen.result
 
   risen_fits : SFits w32 risen
-  risen_fits = record { sfits = c.positive-part.type-inv }
+  risen_fits = record { sfits = c.positive_part-risen.type_inv }
 
   risen_is : Positive (x c.before -ℤ low) risen
-  risen_is = positive (x c.before -ℤ low) risen (simp (reads, c.before.ranges.x, height_fits c.before) at c.positive-part.ensures)
+  risen_is = positive (x c.before -ℤ low) risen (simp (reads, c.before.ranges.x, height_fits c.before) at c.positive_part-risen.ensures)
 
   room_fits : SFits w32 (high -ℤ low -ℤ risen)
   room_fits = simp linear (omega (arith, simp linear at (not_below_0 risen_is), simp linear at risen_fits))
 
-module _ (c : tie.After-positive-part2) where
+module _ (c : After-positive_part-left) where
   abbrev left : ℤ
-  left = c.positive-part2.result
+  left = c.positive_part-left.result
 
   left_fits : SFits w32 left
-  left_fits = record { sfits = c.positive-part2.type-inv }
+  left_fits = record { sfits = c.positive_part-left.type_inv }
 
   left_is : Positive (high -ℤ low -ℤ risen c.before) left
-  left_is = positive (high -ℤ low -ℤ risen c.before) left (simp (reads, risen_fits c.before, room_fits c.before) at c.positive-part2.ensures)
+  left_is = positive (high -ℤ low -ℤ risen c.before) left (simp (reads, risen_fits c.before, room_fits c.before) at c.positive_part-left.ensures)
 
   result-is : high -ℤ left ≡ limit low high (x c.before.before)
   result-is = limit_by_parts low high (x c.before.before) ends (risen_is c.before) left_is
@@ -64,35 +63,17 @@ module _ (c : tie.After-positive-part2) where
   result_fits : SFits w32 (high -ℤ left)
   result_fits = sfits_widen tt result_small
 
-add-positive-part : tie.Need-overflow-add-positive-part
-add-positive-part c = simp (reads, c.ranges.x) (height_fits c)
+pub overflow_add-x : goal.overflow_add-x
+overflow_add-x c = simp (reads, c.ranges.x) (height_fits c)
 
-positive-part-requires : tie.Need-positive-part-requires
-positive-part-requires c κs = search rules
+pub overflow_sub-risen : goal.overflow_sub-risen
+overflow_sub-risen c = simp (reads, risen_fits c) (room_fits c)
 
-sub-positive-part : tie.Need-overflow-sub-positive-part
-sub-positive-part c = simp (reads, risen_fits c) (room_fits c)
+pub overflow_sub-result : goal.overflow_sub-result
+overflow_sub-result c = simp (reads, left_fits c) (result_fits c)
 
-positive-part-requires-2 : tie.Need-positive-part-requires-2
-positive-part-requires-2 c κs = search rules
+pub overflow_cast-result : goal.overflow_cast-result
+overflow_cast-result c = simp (reads, left_fits c, result_fits c) (result_small c)
 
-sub-result : tie.Need-overflow-sub-result
-sub-result c = simp (reads, left_fits c) (result_fits c)
-
-cast-result : tie.Need-overflow-cast-result
-cast-result c = simp (reads, left_fits c, result_fits c) (result_small c)
-
-returns : tie.Need-returns
+pub returns : goal.returns
 returns c = simp (reads, left_fits c, result_fits c, result_small c) (result-is c)
-
-pub limit16-spec : {M : Type 1} → statement M
-limit16-spec =
-    tie.close
-    (tie.spec
-    add-positive-part
-    positive-part-requires
-    sub-positive-part
-    positive-part-requires-2
-    sub-result
-    cast-result
-    returns)
