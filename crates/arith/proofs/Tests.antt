@@ -1,6 +1,6 @@
 -- The laws of `eq_z`, `within` and `every`. Assumes nothing.
 use mathlib.Core.Path.{◌≡◌, refl, sym, ap, ap₂, ◌∙◌}
-use mathlib.Core.Bool.{Bool, true, false, not, ◌&&◌, ◌||◌, cond}
+use mathlib.Core.Bool.{Bool, true, false, ◌&&◌, ◌||◌, cond}
 use Prim.Native.Nat.{ℕ, zero, suc, ◌+◌, ◌*◌, ◌≤◌, ◌<◌}
 use native.Mathlib.Nat.{add-zero, add-suc, not-suc-le-zero}
 use native.Mathlib.Numerals.{add-one}
@@ -50,11 +50,11 @@ pub ||-right : (s t : Bool) → s || t ≡ false → t ≡ false
 
 -- ---- a test that a function made: its result t is the definition's u, and the code looked at `!t`
 
-pub test_fails : {t u : Bool} → t ≡ u → not t ≡ true → u ≡ false
-test_fails {t} e h = sym e ∙ not-true t h
+pub test_fails : {t u : Bool} → t ≡ u → t ≡ false → u ≡ false
+test_fails e h = sym e ∙ h
 
-pub test_holds : {t u : Bool} → t ≡ u → not t ≡ false → u ≡ true
-test_holds {t} e h = sym e ∙ not-false t h
+pub test_holds : {t u : Bool} → t ≡ u → t ≡ true → u ≡ true
+test_holds e h = sym e ∙ h
 
 -- ---- equal integers
 
