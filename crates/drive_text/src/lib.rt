@@ -126,6 +126,7 @@ fn in_second(word: u64, a: u64, c: u64, byte: u8) -> Scan
 
 impl Scan {
     // After one more byte, which is no line end.
+    #[tactic(auto, unfolding(crate::specs::Inner::next_scan))]
     pub fn next(self, byte: u8) -> Scan
         ensures { result ≡ next_scan self byte }
     {
@@ -141,6 +142,7 @@ impl Scan {
     }
 
     // Whether a line's first byte was read.
+    #[tactic(auto, unfolding(crate::specs::Inner::is_begun))]
     pub fn is_begun(self) -> bool
         ensures { result ≡ is_begun self }
     {
@@ -156,6 +158,7 @@ impl Scan {
     }
 
     // What the line says if it ends here.
+    #[tactic(auto, unfolding(crate::specs::Inner::scanned_line))]
     pub fn line(self) -> Line
         ensures { result ≡ scanned_line self }
     {

@@ -1,0 +1,15 @@
+-- `drive_text::after_first` meets its contract. Assumes nothing.
+use mathlib.Core.Path.{sym, ◌∙◌}
+use Rattle.drive_text.specs.Inner.{next_scan}
+use Rattle.drive_text.proofs.after_first.Goals as goal
+
+pub next_number-requires : goal.next_number-requires
+next_number-requires c = sym c.before.is_digit.ensures ∙ c.if-is_digit.true
+
+pub returns-then-is_digit : goal.returns-then-is_digit
+unfolding next_scan
+returns-then-is_digit c = simp (sym c.before.before.is_digit.ensures ∙ c.before.if-is_digit.true, c.next_number.ensures)
+
+pub returns : goal.returns
+unfolding next_scan
+returns c = simp (sym c.before.is_digit.ensures ∙ c.if-is_digit.false)
