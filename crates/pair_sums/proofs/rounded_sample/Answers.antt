@@ -13,13 +13,13 @@ use Rattle.arith.proofs.Integers.{abs_triangle, abs_fits}
 use Rattle.arith.proofs.Linear.{linear}
 use Rattle.arith.proofs.Rounding.{odd_of, odd_small, near_parts}
 use Rattle.pair_sums.proofs.Pairs.{shift-floor}
-use Rattle.pair_sums.proofs.rounded_sample.Statement.{statement}
-use Rattle.pair_sums.proofs.rounded_sample.Tie as tie
+use Rattle.pair_sums.proofs.rounded_sample.Goals as goal
+use Rattle.pair_sums.proofs.rounded_sample.Goals.{Start}
 
 shift_fits : (x : ℤ) (m : ℕ) → SFits w32 x → SFits w32 (shr_z x m)
 shift_fits x m f = rw (shift-floor x m) (floor_fits w32 x m f)
 
-module _ (s : tie.Start) where
+module _ (s : Start) where
   abbrev sum : ℤ
   sum = s.args.sum
 
@@ -36,7 +36,7 @@ module _ (s : tie.Start) where
   risen = sum +ℤ pos 31 +ℤ odd
 
   part_fits : SFits w32 part
-  part_fits = shift_fits sum 32 s.fits.sum
+  part_fits = shift_fits sum 32 s.ranges.sum
 
   q_fits : SFits w32 q
   q_fits = shift_fits part 2 part_fits
@@ -46,7 +46,7 @@ module _ (s : tie.Start) where
 
   half_small : nat_abs (shr_z q 2) ≤ 2 ^ 23
   half_small =
-      let p : nat_abs part ≤ 2 ^ 25 = rw (shift-floor sum 32) (floor_bound sum (omega arith) (2 ^ 25) (omega (arith, s.pre))) in
+      let p : nat_abs part ≤ 2 ^ 25 = rw (shift-floor sum 32) (floor_bound sum (omega arith) (2 ^ 25) (omega (arith, s.requires))) in
       let b : nat_abs q ≤ 2 ^ 24 = rw (shift-floor part 2) (floor_bound part (omega arith) (2 ^ 24) (omega (arith, p))) in
       rw (shift-floor q 2) (floor_bound q (omega arith) (2 ^ 23) (omega (arith, b)))
 
@@ -71,10 +71,10 @@ module _ (s : tie.Start) where
   twice_fits = simp linear (omega (arith, simp linear at half_small))
 
   nearly_fits : SFits w32 (sum +ℤ pos 31)
-  nearly_fits = abs_fits w32 (sum +ℤ pos 31) (omega (arith, abs_triangle sum (pos 31), s.pre))
+  nearly_fits = abs_fits w32 (sum +ℤ pos 31) (omega (arith, abs_triangle sum (pos 31), s.requires))
 
   risen_fits : SFits w32 risen
-  risen_fits = abs_fits w32 risen (omega (arith, abs_triangle (sum +ℤ pos 31) odd, abs_triangle sum (pos 31), odd_is_small, s.pre))
+  risen_fits = abs_fits w32 risen (omega (arith, abs_triangle (sum +ℤ pos 31) odd, abs_triangle sum (pos 31), odd_is_small, s.requires))
 
   risen_part_fits : SFits w32 (shr_z risen 32)
   risen_part_fits = shift_fits risen 32 risen_fits
@@ -96,20 +96,17 @@ module _ (s : tie.Start) where
       plain : (x : ℤ) → pos 32 *ℤ pos 0 +ℤ x ≡ x
       plain x = simp linear (omega arith)
 
-mul-odd : tie.Need-overflow-mul-odd
-mul-odd c = simp (reads, c.ranges.sum, part_fits c, q_fits c, half_fits c) (twice_fits c)
+pub overflow_mul-odd : goal.overflow_mul-odd
+overflow_mul-odd c = simp (reads, c.ranges.sum, part_fits c, q_fits c, half_fits c) (twice_fits c)
 
-sub-odd : tie.Need-overflow-sub-odd
-sub-odd c = simp (reads, c.ranges.sum, part_fits c, q_fits c, half_fits c, twice_fits c) (odd_fits c)
+pub overflow_sub-odd : goal.overflow_sub-odd
+overflow_sub-odd c = simp (reads, c.ranges.sum, part_fits c, q_fits c, half_fits c, twice_fits c) (odd_fits c)
 
-add-result : tie.Need-overflow-add-result
-add-result c = simp (reads, c.ranges.sum) (nearly_fits c)
+pub overflow_add-result : goal.overflow_add-result
+overflow_add-result c = simp (reads, c.ranges.sum) (nearly_fits c)
 
-add-result-2 : tie.Need-overflow-add-result-2
-add-result-2 c = simp (reads, c.ranges.sum, part_fits c, q_fits c, half_fits c, twice_fits c, odd_fits c, nearly_fits c) (risen_fits c)
+pub overflow_add-result-2 : goal.overflow_add-result-2
+overflow_add-result-2 c = simp (reads, c.ranges.sum, part_fits c, q_fits c, half_fits c, twice_fits c, odd_fits c, nearly_fits c) (risen_fits c)
 
-returns : tie.Need-returns
+pub returns : goal.returns
 returns c = simp (reads, c.ranges.sum, part_fits c, q_fits c, half_fits c, twice_fits c, odd_fits c, nearly_fits c, risen_fits c, risen_part_fits c, result_fits c) (result-is c)
-
-pub rounded-sample-spec : {M : Type 1} → statement M
-rounded-sample-spec = tie.close (tie.spec mul-odd sub-odd add-result add-result-2 returns)

@@ -12,10 +12,10 @@ use Rattle.arith.proofs.Integers.{abs_triangle, abs-*-≤, abs_fits}
 use Rattle.arith.proofs.Linear.{linear}
 use Rattle.pair_sums.specs.Pairs.{upper_part, lower_part}
 use Rattle.pair_sums.proofs.Pairs.{shift-floor, upper_small, lower_between}
-use Rattle.pair_sums.proofs.parts.lower_part.Statement.{statement}
-use Rattle.pair_sums.proofs.parts.lower_part.Tie as tie
+use Rattle.pair_sums.proofs.parts.lower_part.Goals as goal
+use Rattle.pair_sums.proofs.parts.lower_part.Goals.{Start}
 
-module _ (s : tie.Start) where
+module _ (s : Start) where
   abbrev x : ℤ
   x = s.args.x
 
@@ -26,10 +26,10 @@ module _ (s : tie.Start) where
   upper_is = shift-floor (x +ℤ pos 32768) 65536
 
   raised_fits : SFits w32 (x +ℤ pos 32768)
-  raised_fits = abs_fits w32 (x +ℤ pos 32768) (omega (arith, abs_triangle x (pos 32768), s.pre))
+  raised_fits = abs_fits w32 (x +ℤ pos 32768) (omega (arith, abs_triangle x (pos 32768), s.requires))
 
   y_small : nat_abs y ≤ 2048
-  y_small = rw upper_is (upper_small x s.pre)
+  y_small = rw upper_is (upper_small x s.requires)
 
   y_fits : SFits w32 y
   y_fits = abs_fits w32 y (omega (arith, y_small))
@@ -46,20 +46,17 @@ module _ (s : tie.Start) where
   low_fits_wide : SFits w32 (x -ℤ y *ℤ pos 65536)
   low_fits_wide = sfits_widen tt low_fits
 
-add-result : tie.Need-overflow-add-result
-add-result c = simp (reads, c.ranges.x) (raised_fits c)
+pub overflow_add-result : goal.overflow_add-result
+overflow_add-result c = simp (reads, c.ranges.x) (raised_fits c)
 
-mul-result : tie.Need-overflow-mul-result
-mul-result c = simp (reads, c.ranges.x, raised_fits c, y_fits c) (scaled_fits c)
+pub overflow_mul-result : goal.overflow_mul-result
+overflow_mul-result c = simp (reads, c.ranges.x, raised_fits c, y_fits c) (scaled_fits c)
 
-sub-result : tie.Need-overflow-sub-result
-sub-result c = simp (reads, c.ranges.x, raised_fits c, y_fits c, scaled_fits c) (low_fits_wide c)
+pub overflow_sub-result : goal.overflow_sub-result
+overflow_sub-result c = simp (reads, c.ranges.x, raised_fits c, y_fits c, scaled_fits c) (low_fits_wide c)
 
-cast-result : tie.Need-overflow-cast-result
-cast-result c = simp (reads, c.ranges.x, raised_fits c, y_fits c, scaled_fits c, low_fits_wide c) (low_fits c)
+pub overflow_cast-result : goal.overflow_cast-result
+overflow_cast-result c = simp (reads, c.ranges.x, raised_fits c, y_fits c, scaled_fits c, low_fits_wide c) (low_fits c)
 
-returns : tie.Need-returns
+pub returns : goal.returns
 returns c = simp (reads, c.ranges.x, raised_fits c, y_fits c, scaled_fits c, low_fits_wide c, low_fits c) (lower_is c)
-
-pub lower-part-spec : {M : Type 1} → statement M
-lower-part-spec = tie.close (tie.spec add-result mul-result sub-result cast-result returns)

@@ -13,14 +13,14 @@ use Rattle.arith.proofs.Integers.{abs_triangle, abs_fits}
 use Rattle.arith.proofs.Linear.{linear, abs-pos-*}
 use Rattle.arith.proofs.Rounding.{odd_of, odd_small, near_parts}
 use Rattle.pair_sums.proofs.Pairs.{shift-floor}
-use Rattle.pair_sums.proofs.rounded.Statement.{statement}
-use Rattle.pair_sums.proofs.rounded.Tie as tie
+use Rattle.pair_sums.proofs.rounded.Goals as goal
+use Rattle.pair_sums.proofs.rounded.Goals.{Start}
 
 -- one less than the half of a word's unit
 abbrev nearly_half : ℤ
 nearly_half = pos 8191
 
-module _ (s : tie.Start) where
+module _ (s : Start) where
   abbrev lower : ℤ
   lower = s.args.lower
 
@@ -44,10 +44,10 @@ module _ (s : tie.Start) where
   sum = high +ℤ shr_z risen 8192
 
   high_small : nat_abs high ≤ 2 ^ 29
-  high_small = omega (arith, abs-pos-* 8 s.args.upper, s.pre.0)
+  high_small = omega (arith, abs-pos-* 8 s.args.upper, s.requires.0)
 
   part_small : nat_abs (shr_z lower 8192) ≤ 2 ^ 17
-  part_small = rw (shift-floor lower 8192) (floor_bound lower (omega arith) (2 ^ 17) (omega (arith, s.pre.1)))
+  part_small = rw (shift-floor lower 8192) (floor_bound lower (omega arith) (2 ^ 17) (omega (arith, s.requires.1)))
 
   whole_small : nat_abs whole ≤ 2 ^ 30
   whole_small = omega (arith, abs_triangle high (shr_z lower 8192), high_small, part_small)
@@ -69,7 +69,7 @@ module _ (s : tie.Start) where
       rw odd_is (simp linear (omega (arith, simp linear at b.0, simp linear at b.1)))
 
   risen_small : nat_abs risen ≤ 2 ^ 30 + 8192
-  risen_small = omega (arith, abs_triangle (lower +ℤ nearly_half) odd, abs_triangle lower (nearly_half), odd_is_small, s.pre.1)
+  risen_small = omega (arith, abs_triangle (lower +ℤ nearly_half) odd, abs_triangle lower (nearly_half), odd_is_small, s.requires.1)
 
   risen_part_small : nat_abs (shr_z risen 8192) ≤ 2 ^ 17 + 1
   risen_part_small = rw (shift-floor risen 8192) (floor_bound risen (omega arith) (2 ^ 17 + 1) (omega (arith, risen_small)))
@@ -99,7 +99,7 @@ module _ (s : tie.Start) where
   odd_fits = abs_fits w32 odd (omega (arith, odd_is_small))
 
   nearly_fits : SFits w32 (lower +ℤ nearly_half)
-  nearly_fits = abs_fits w32 (lower +ℤ nearly_half) (omega (arith, abs_triangle lower (nearly_half), s.pre.1))
+  nearly_fits = abs_fits w32 (lower +ℤ nearly_half) (omega (arith, abs_triangle lower (nearly_half), s.requires.1))
 
   risen_fits : SFits w32 risen
   risen_fits = abs_fits w32 risen (omega (arith, risen_small))
@@ -124,35 +124,30 @@ module _ (s : tie.Start) where
       ∙ near_parts high lower {u = 8192} {h = 1} (omega arith) (omega arith)
       ∙ ap (λ z. near z 16384) e
 
-mul-high : tie.Need-overflow-mul-high
-mul-high c = simp (reads, c.ranges.upper) (high_fits c)
+pub overflow_mul-high : goal.overflow_mul-high
+overflow_mul-high c = simp (reads, c.ranges.upper) (high_fits c)
 
-add-q : tie.Need-overflow-add-q
-add-q c = simp (reads, c.ranges.upper, c.ranges.lower, high_fits c, part_fits c) (whole_fits c)
+pub overflow_add-q : goal.overflow_add-q
+overflow_add-q c = simp (reads, c.ranges.upper, c.ranges.lower, high_fits c, part_fits c) (whole_fits c)
 
-mul-odd : tie.Need-overflow-mul-odd
-mul-odd c = simp (reads, c.ranges.upper, c.ranges.lower, high_fits c, part_fits c, whole_fits c, q_fits c, half_fits c) (twice_fits c)
+pub overflow_mul-odd : goal.overflow_mul-odd
+overflow_mul-odd c = simp (reads, c.ranges.upper, c.ranges.lower, high_fits c, part_fits c, whole_fits c, q_fits c, half_fits c) (twice_fits c)
 
-sub-odd : tie.Need-overflow-sub-odd
-sub-odd c = simp (reads, c.ranges.upper, c.ranges.lower, high_fits c, part_fits c, whole_fits c, q_fits c, half_fits c, twice_fits c) (odd_fits c)
+pub overflow_sub-odd : goal.overflow_sub-odd
+overflow_sub-odd c = simp (reads, c.ranges.upper, c.ranges.lower, high_fits c, part_fits c, whole_fits c, q_fits c, half_fits c, twice_fits c) (odd_fits c)
 
-add-result : tie.Need-overflow-add-result
-add-result c = simp (reads, c.ranges.lower) (nearly_fits c)
+pub overflow_add-result : goal.overflow_add-result
+overflow_add-result c = simp (reads, c.ranges.lower) (nearly_fits c)
 
-add-result-2 : tie.Need-overflow-add-result-2
-add-result-2 c =
+pub overflow_add-result-2 : goal.overflow_add-result-2
+overflow_add-result-2 c =
     simp (reads, c.ranges.upper, c.ranges.lower, high_fits c, part_fits c, whole_fits c, q_fits c, half_fits c, twice_fits c, odd_fits c, nearly_fits c) (risen_fits c)
 
-add-result-3 : tie.Need-overflow-add-result-3
-add-result-3 c =
+pub overflow_add-result-3 : goal.overflow_add-result-3
+overflow_add-result-3 c =
     simp (reads, c.ranges.upper, c.ranges.lower, high_fits c, part_fits c, whole_fits c, q_fits c, half_fits c, twice_fits c, odd_fits c, nearly_fits c, risen_fits c, risen_part_fits c) (sum_fits c)
 
-returns : tie.Need-returns
+pub returns : goal.returns
 returns c =
     simp (reads, c.ranges.upper, c.ranges.lower, high_fits c, part_fits c, whole_fits c, q_fits c, half_fits c, twice_fits c, odd_fits c, nearly_fits c, risen_fits c, risen_part_fits c, sum_fits c, result_fits c)
     (result-is c)
-
-pub rounded-spec : {M : Type 1} → statement M
-rounded-spec =
-    tie.close
-    (tie.spec mul-high add-q mul-odd sub-odd add-result add-result-2 add-result-3 returns)

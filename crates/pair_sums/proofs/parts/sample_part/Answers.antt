@@ -8,19 +8,13 @@ use Rattle.arith.specs.Limit.{limit}
 use Rattle.arith.proofs.Bits.{reads}
 use Rattle.arith.proofs.Floor.{floor_fits}
 use Rattle.pair_sums.proofs.Pairs.{shift-floor}
-use Rattle.pair_sums.proofs.parts.sample_part.Statement.{statement}
-use Rattle.pair_sums.proofs.parts.sample_part.Tie as tie
+use Rattle.pair_sums.proofs.parts.sample_part.Goals as goal
+use Rattle.pair_sums.proofs.parts.sample_part.Goals.{Start}
 
-shifted_fits : (s : tie.Start) → SFits w32 (shr_z s.args.x 256)
+shifted_fits : (s : Start) → SFits w32 (shr_z s.args.x 256)
 shifted_fits s = rw (shift-floor s.args.x 256) (floor_fits w32 s.args.x 256 s.ranges.x)
 
-narrow-requires : tie.Need-narrow-requires
-narrow-requires c κs = tt
-
-returns : tie.Need-returns
+pub returns : goal.returns
 returns c = let s = c.before in
-    let f : SFits w16 c.narrow.result = record { sfits = c.narrow.type-inv } in
+    let f : SFits w16 c.narrow.result = record { sfits = c.narrow.type_inv } in
     simp (reads, f) ((simp (reads, s.ranges.x, shifted_fits s) at c.narrow.ensures) ∙ ap (limit (negsuc 32767) (pos 32767)) (shift-floor s.args.x 256))
-
-pub sample-part-spec : {M : Type 1} → statement M
-sample-part-spec = tie.close (tie.spec narrow-requires returns)
