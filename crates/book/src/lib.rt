@@ -18,7 +18,7 @@ mod ranges; // numbers 2 and 4
 mod sums; // number 7
 
 // The sizes at a book's head, by document 01's letters: N, M, A, B and F.
-#[derive(Drop)]
+#[derive(Clone, Copy)]
 pub struct Sizes {
     // N: taps per phase
     pub taps: usize,

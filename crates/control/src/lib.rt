@@ -6,21 +6,21 @@ pub mod moves; // the glide before an output, the fade and the position at each 
 pub mod rate; // rates as f32, the asked level, the position's advance
 
 // The opening card: a rate, and the top level T.
-#[derive(Drop)]
+#[derive(Clone, Copy)]
 pub struct Card {
     pub rate: f32,
     pub top: u32,
 }
 
 // An order: a jump to a rate, or a glide to a rate over `count` outputs.
-#[derive(Drop)]
+#[derive(Clone, Copy)]
 pub enum Order {
     Jump(f32),
     Glide { target: f32, count: u32 },
 }
 
 // A glide under way: R0, R1, c and j. Without a glide all four are 0.
-#[derive(Drop)]
+#[derive(Clone, Copy)]
 pub struct Glide {
     pub start: u64,
     pub target: u64,
@@ -29,7 +29,7 @@ pub struct Glide {
 }
 
 // A fade under way: the old level, the new one and i. Without a fade both are the current level and i is 0.
-#[derive(Drop)]
+#[derive(Clone, Copy)]
 pub struct Fade {
     pub from: u32,
     pub to: u32,
@@ -37,7 +37,7 @@ pub struct Fade {
 }
 
 // What moves a voice: T, the fade, R, the glide and P. It never looks at a point.
-#[derive(Drop)]
+#[derive(Clone, Copy)]
 pub struct Control {
     pub top: u32,
     pub fade: Fade,
@@ -47,7 +47,7 @@ pub struct Control {
 }
 
 // What a point is made from: the old and the new level, i (0 where no fade runs) and P.
-#[derive(Drop)]
+#[derive(Clone, Copy)]
 pub struct Plan {
     pub old: u32,
     pub new: u32,

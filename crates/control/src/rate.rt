@@ -60,7 +60,7 @@ pub fn octave_level(rate: u64) -> u32
 }
 
 // The rates at which a level stays: from `low` up to below `high`.
-#[derive(Drop)]
+#[derive(Clone, Copy)]
 pub struct Band {
     pub low: u64,
     pub high: u64,

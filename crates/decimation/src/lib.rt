@@ -10,7 +10,7 @@ ghost use Rattle.decimation.specs.Decimation.{output};
 ghost use Rattle.decimation.specs.Inner.{TapStep, Summable, centred_sum, sample_of, line_output};
 
 // Four sums, each around a place two after the one before it.
-#[derive(Drop)]
+#[derive(Clone, Copy)]
 struct FourSums {
     a: i64,
     b: i64,

@@ -8,14 +8,14 @@ use control::moves::glide_after;
 use control::{Control, Glide};
 
 // A number divided by c: the floor, and the rest in 0..c−1.
-#[derive(Drop)]
+#[derive(Clone, Copy)]
 pub(crate) struct Quotient {
     pub floor: i64,
     pub rest: u32,
 }
 
 // Rates in 2^-23: that of output i of a run is the floor of start + slope × i.
-#[derive(Drop)]
+#[derive(Clone, Copy)]
 pub(crate) struct Rates {
     pub start: i64,
     pub slope: i64,

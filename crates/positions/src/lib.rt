@@ -18,7 +18,7 @@ mod fades; // the fade along a run
 mod glide; // rates along a run
 
 // What a run leaves: the plan of its first point, the control, and how many outputs it made the positions of.
-#[derive(Drop)]
+#[derive(Clone, Copy)]
 pub struct Run {
     pub plan: Plan,
     pub control: Control,

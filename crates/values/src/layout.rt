@@ -10,7 +10,7 @@ use store::sizes::level_starts;
 use store::{sample_count, top_level};
 
 // The sizes of a book that values hang on, and the places of a store's levels.
-#[derive(Drop)]
+#[derive(Clone, Copy)]
 pub struct Layout {
     // N: taps per phase
     pub taps: usize,
