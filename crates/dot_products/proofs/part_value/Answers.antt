@@ -14,10 +14,10 @@ use Rattle.arith.proofs.Linear.{linear, abs_neg}
 use Rattle.arith.proofs.Ring.{products, terms}
 use Rattle.arith.proofs.Integers.{abs_fits, abs_triangle, abs-*-≤}
 use Rattle.dot_products.specs.Sums.{mixed_value, parts_value}
-use Rattle.dot_products.proofs.part_value.Statement.{statement}
-use Rattle.dot_products.proofs.part_value.Tie as tie
+use Rattle.dot_products.proofs.part_value.Goals as goal
+use Rattle.dot_products.proofs.part_value.Goals.{Start}
 
-module _ (c : tie.Start) where
+module _ (c : Start) where
   abbrev h : ℤ
   h = c.args.high1
 
@@ -107,77 +107,57 @@ module _ (c : tie.Start) where
           ≡ pos (2 ^ 32) *ℤ (x *ℤ pos 16384 +ℤ y) +ℤ pos n *ℤ ((x' *ℤ pos 16384 +ℤ y') -ℤ (x *ℤ pos 16384 +ℤ y))
       law x y x' y' n = simp products (simp terms (omega arith))
 
-cast-e : tie.Need-overflow-cast-e
-cast-e c = simp linear (omega (arith, e_low c))
+pub overflow_cast-e : goal.overflow_cast-e
+overflow_cast-e c = simp linear (omega (arith, e_low c))
 
-cast-h : tie.Need-overflow-cast-h
-cast-h c = simp (reads, c.ranges.high1) (sfits_widen tt c.ranges.high1)
+pub overflow_cast-h : goal.overflow_cast-h
+overflow_cast-h c = simp (reads, c.ranges.high1) (sfits_widen tt c.ranges.high1)
 
-cast-l : tie.Need-overflow-cast-l
-cast-l c = simp (reads, c.ranges.low1) (sfits_widen tt c.ranges.low1)
+pub overflow_cast-l : goal.overflow_cast-l
+overflow_cast-l c = simp (reads, c.ranges.low1) (sfits_widen tt c.ranges.low1)
 
-mul-near-parts : tie.Need-overflow-mul-near-parts
-mul-near-parts c = simp (reads, c.ranges.high1) (high_fits c)
+pub overflow_mul-h : goal.overflow_mul-h
+overflow_mul-h c = simp (reads, c.ranges.high1) (high_fits c)
 
-mul-near-parts-2 : tie.Need-overflow-mul-near-parts-2
-mul-near-parts-2 c = simp (reads, c.ranges.low1) (low_fits c)
+pub overflow_mul-l : goal.overflow_mul-l
+overflow_mul-l c = simp (reads, c.ranges.low1) (low_fits c)
 
-add-near-parts : tie.Need-overflow-add-near-parts
-add-near-parts c = simp (reads, c.ranges.high1, c.ranges.low1, high_fits c, low_fits c) (both_fits c)
+pub overflow_add-h : goal.overflow_add-h
+overflow_add-h c = simp (reads, c.ranges.high1, c.ranges.low1, high_fits c, low_fits c) (both_fits c)
 
-cast-near-parts : tie.Need-overflow-cast-near-parts
-cast-near-parts c = simp (reads, c.ranges.high2) (sfits_widen tt c.ranges.high2)
+pub overflow_cast-high2 : goal.overflow_cast-high2
+overflow_cast-high2 c = simp (reads, c.ranges.high2) (sfits_widen tt c.ranges.high2)
 
-sub-near-parts : tie.Need-overflow-sub-near-parts
-sub-near-parts c = simp (reads, c.ranges.high1, c.ranges.high2) (high_step_fits c)
+pub overflow_sub-high2 : goal.overflow_sub-high2
+overflow_sub-high2 c = simp (reads, c.ranges.high1, c.ranges.high2) (high_step_fits c)
 
-mul-near-parts-3 : tie.Need-overflow-mul-near-parts-3
-mul-near-parts-3 c = simp (reads, e_low c, c.ranges.high1, c.ranges.high2, high_step_fits c) (product-fits c)
+pub overflow_mul-e : goal.overflow_mul-e
+overflow_mul-e c = simp (reads, e_low c, c.ranges.high1, c.ranges.high2, high_step_fits c) (product-fits c)
 
-add-near-parts-2 : tie.Need-overflow-add-near-parts-2
-add-near-parts-2 c =
+pub overflow_add-h-2 : goal.overflow_add-h-2
+overflow_add-h-2 c =
     simp (reads, e_low c, c.ranges.high1, c.ranges.low1, c.ranges.high2, high_fits c, low_fits c, both_fits c, high_step_fits c, product-fits c) (head_fits c)
 
-cast-near-parts-2 : tie.Need-overflow-cast-near-parts-2
-cast-near-parts-2 c = simp (reads, c.ranges.low2) (sfits_widen tt c.ranges.low2)
+pub overflow_cast-low2 : goal.overflow_cast-low2
+overflow_cast-low2 c = simp (reads, c.ranges.low2) (sfits_widen tt c.ranges.low2)
 
-sub-near-parts-2 : tie.Need-overflow-sub-near-parts-2
-sub-near-parts-2 c = simp (reads, c.ranges.low1, c.ranges.low2) (low_step_fits c)
+pub overflow_sub-low2 : goal.overflow_sub-low2
+overflow_sub-low2 c = simp (reads, c.ranges.low1, c.ranges.low2) (low_step_fits c)
 
-mul-near-parts-4 : tie.Need-overflow-mul-near-parts-4
-mul-near-parts-4 c = simp (reads, e_low c, c.ranges.low1, c.ranges.low2, low_step_fits c) (tail_fits c)
+pub overflow_mul-e-2 : goal.overflow_mul-e-2
+overflow_mul-e-2 c = simp (reads, e_low c, c.ranges.low1, c.ranges.low2, low_step_fits c) (tail_fits c)
 
-near-parts-requires : tie.Need-near-parts-requires
-near-parts-requires c κs =
+pub near_parts-requires : goal.near_parts-requires
+near_parts-requires c =
     simp (reads, e_low c, c.ranges.high1, c.ranges.low1, c.ranges.high2, c.ranges.low2, high_fits c, low_fits c, both_fits c, high_step_fits c, low_step_fits c, product-fits c, head_fits c, tail_fits c)
-    ((omega (arith, head_size c, tail_size c, div-add-mod (nat_abs (tail c)) 16384), tail_size c, omega arith), (lt_z_yes tt, (le_z_yes tt, (lt_z_yes tt, le_z_yes tt))))
+    (record { unit_bound = (omega (arith, head_size c, tail_size c, div-add-mod (nat_abs (tail c)) 16384), tail_size c, omega arith); pos_bound_1 = lt_z_yes tt; pos_bound_2 = le_z_yes tt; pos_bound_3 = lt_z_yes tt; pos_bound_4 = le_z_yes tt })
 
-returns : tie.Need-returns
+pub returns : goal.returns
 unfolding parts_value mixed_value
 returns c =
     let s = c.before in
-    let fits : SFits w64 c.near_parts.result = record { sfits = c.near_parts.type-inv } in
+    let fits : SFits w64 c.near_parts.result = record { sfits = c.near_parts.type_inv } in
     let rounded : c.near_parts.result ≡ near (pos 16384 *ℤ head s +ℤ tail s) (16384 * 2 ^ 32) =
     simp (reads, e_low s, s.ranges.high1, s.ranges.low1, s.ranges.high2, s.ranges.low2, high_fits s, low_fits s, both_fits s, high_step_fits s, low_step_fits s, product-fits s, head_fits s, tail_fits s)
     at c.near_parts.ensures in
     simp (reads, fits) (rounded ∙ ap (λ x. near x (16384 * 2 ^ 32)) (sum_is s))
-
-pub part-value-spec : {M : Type 1} → statement M
-part-value-spec =
-    tie.close
-    (tie.spec
-    cast-e
-    cast-h
-    cast-l
-    mul-near-parts
-    mul-near-parts-2
-    add-near-parts
-    cast-near-parts
-    sub-near-parts
-    mul-near-parts-3
-    add-near-parts-2
-    cast-near-parts-2
-    sub-near-parts-2
-    mul-near-parts-4
-    near-parts-requires
-    returns)

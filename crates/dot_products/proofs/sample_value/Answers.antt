@@ -1,6 +1,6 @@
 -- `dot_products::sample_value` meets its contract: every number on the way fits 64 bits, and what is rounded is the words' over 2^12. Assumes nothing.
 use mathlib.Core.Path.{◌≡◌, sym, ap, ◌∙◌}
-use Prim.Native.Nat.{ℕ, ◌+◌, ◌*◌, ◌/◌, ◌^◌, ◌≤◌, ◌<◌}
+use Prim.Native.Nat.{ℕ, ◌*◌, ◌/◌, ◌^◌, ◌≤◌, ◌<◌}
 use native.Mathlib.Nat.{div-add-mod}
 use native.Mathlib.Omega.{arith}
 use lib.IntN.{ℤ, pos, nat_abs, ◌+ℤ◌, ◌-ℤ◌, ◌*ℤ◌}
@@ -15,10 +15,10 @@ use Rattle.arith.proofs.Linear.{linear}
 use Rattle.arith.proofs.Ring.{products, terms}
 use Rattle.arith.proofs.Integers.{abs_fits, abs_triangle, abs-*-≤}
 use Rattle.dot_products.specs.Sums.{mixed_value}
-use Rattle.dot_products.proofs.sample_value.Statement.{statement}
-use Rattle.dot_products.proofs.sample_value.Tie as tie
+use Rattle.dot_products.proofs.sample_value.Goals as goal
+use Rattle.dot_products.proofs.sample_value.Goals.{Start}
 
-module _ (c : tie.Start) where
+module _ (c : Start) where
   abbrev b : ℤ
   b = c.args.base
 
@@ -70,39 +70,36 @@ module _ (c : tie.Start) where
       law : (x y : ℤ) (n : ℕ) → pos 4096 *ℤ (x *ℤ pos 268435456 +ℤ pos n *ℤ (y -ℤ x)) ≡ pos (2 ^ 32) *ℤ (x *ℤ pos 256) +ℤ pos (16 * n) *ℤ (y *ℤ pos 256 -ℤ x *ℤ pos 256)
       law x y n = simp products (simp terms (omega arith))
 
-cast-b : tie.Need-overflow-cast-b
-cast-b c = simp (reads, c.ranges.base) (sfits_widen tt c.ranges.base)
+pub overflow_cast-b : goal.overflow_cast-b
+overflow_cast-b c = simp (reads, c.ranges.base) (sfits_widen tt c.ranges.base)
 
-mul-near : tie.Need-overflow-mul-near
-mul-near c = simp (reads, c.ranges.base) (base_fits c)
+pub overflow_mul-b : goal.overflow_mul-b
+overflow_mul-b c = simp (reads, c.ranges.base) (base_fits c)
 
-cast-near : tie.Need-overflow-cast-near
-cast-near c = simp linear (omega (arith, e_low c))
+pub overflow_cast-offset : goal.overflow_cast-offset
+overflow_cast-offset c = simp linear (omega (arith, e_low c))
 
-cast-near-2 : tie.Need-overflow-cast-near-2
-cast-near-2 c = simp (reads, c.ranges.next) (sfits_widen tt c.ranges.next)
+pub overflow_cast-next : goal.overflow_cast-next
+overflow_cast-next c = simp (reads, c.ranges.next) (sfits_widen tt c.ranges.next)
 
-sub-near : tie.Need-overflow-sub-near
-sub-near c = simp (reads, c.ranges.base, c.ranges.next) (step_fits c)
+pub overflow_sub-next : goal.overflow_sub-next
+overflow_sub-next c = simp (reads, c.ranges.base, c.ranges.next) (step_fits c)
 
-mul-near-2 : tie.Need-overflow-mul-near-2
-mul-near-2 c = simp (reads, e_low c, c.ranges.base, c.ranges.next, step_fits c) (product-fits c)
+pub overflow_mul-offset : goal.overflow_mul-offset
+overflow_mul-offset c = simp (reads, e_low c, c.ranges.base, c.ranges.next, step_fits c) (product-fits c)
 
-add-near : tie.Need-overflow-add-near
-add-near c = simp (reads, e_low c, c.ranges.base, c.ranges.next, base_fits c, step_fits c, product-fits c) (whole_fits c)
+pub overflow_add-b : goal.overflow_add-b
+overflow_add-b c = simp (reads, e_low c, c.ranges.base, c.ranges.next, base_fits c, step_fits c, product-fits c) (whole_fits c)
 
-near-requires : tie.Need-near-requires
-near-requires c κs =
-    simp (reads, e_low c, c.ranges.base, c.ranges.next, base_fits c, step_fits c, product-fits c, whole_fits c) (whole_size c, (lt_z_yes tt, le_z_yes tt))
+pub near-requires : goal.near-requires
+near-requires c =
+    simp (reads, e_low c, c.ranges.base, c.ranges.next, base_fits c, step_fits c, product-fits c, whole_fits c) (record { fact_1 = whole_size c; fact_2 = lt_z_yes tt; fact_3 = le_z_yes tt })
 
-returns : tie.Need-returns
+pub returns : goal.returns
 unfolding mixed_value
 returns c =
     let s = c.before in
-    let fits : SFits w64 c.near.result = record { sfits = c.near.type-inv } in
+    let fits : SFits w64 c.near.result = record { sfits = c.near.type_inv } in
     let rounded : c.near.result ≡ near (whole s) (2 ^ 34) =
     simp (reads, e_low s, s.ranges.base, s.ranges.next, base_fits s, step_fits s, product-fits s, whole_fits s) at c.near.ensures in
     simp (reads, fits) (rounded ∙ sym (near_scale (whole s) (2 ^ 34) {c = 4096} (omega arith) (omega arith)) ∙ ap (λ x. near x (16384 * 2 ^ 32)) (sum_is s))
-
-pub sample_value_spec : {M : Type 1} → statement M
-sample_value_spec = tie.close (tie.spec cast-b mul-near cast-near cast-near-2 sub-near mul-near-2 add-near near-requires returns)

@@ -1,0 +1,22 @@
+-- `dot_products::part_values_by` meets its contract. The loop's invariant: the values of the places passed are written, the newest in front. Assumes nothing.
+use mathlib.Core.Path.{◌≡◌}
+use mathlib.Core.List.{List}
+use Prim.Native.Nat.{ℕ, ◌-◌, ◌≤◌}
+use lib.IntN.{ℤ}
+use lib.ListN.{length, get_or}
+use Rattle.arith.specs.Lists.{at}
+use Rattle.arith.proofs.Written.{newest}
+use Rattle.dot_products.specs.Sums.{sum_here, sum_next, parts_value}
+use Rattle.dot_products.proofs.part_values_by.Given as goal
+
+-- the value at place k
+abbrev pub value_at : List ℤ → List ℤ → List ℤ → List ℤ → List ℤ → ℕ → List ℕ → List ℕ → List ℕ → ℕ → ℤ
+value_at one two low high table W rows firsts offsets k =
+    parts_value (at one k) (sum_here low table W rows firsts k) (sum_next high table W rows firsts k) (at two k) (get_or offsets k 0)
+
+abbrev pub invariant-loop-k : goal.invariant-loop-k
+invariant-loop-k l =
+    (l.k ≤ l.count) × (length l.line ≡ length l.initial.line) × (l.line ≡ newest l.initial.line l.end (value_at l.one l.two l.low l.high l.table l.width l.rows l.firsts l.offsets) l.k)
+
+abbrev pub decreases-loop-k : goal.decreases-loop-k
+decreases-loop-k l = l.count - l.k
