@@ -4,7 +4,7 @@
 use mathlib.Core.Path.{◌≡◌, refl, sym, ap, ◌∙◌}
 use mathlib.Core.Bool.{Bool, true, false, not, ◌&&◌, ◌||◌, cond, true≢false}
 use Prim.Native.Nat.{ℕ, zero, suc, ◌+◌, ◌-◌, ◌*◌, ◌/◌, ◌%◌, ◌^◌, ◌≤◌, ◌<◌, min}
-use native.Mathlib.Nat.{lt_of_lt_of_le, lt_of_not_le, mul_assoc, mul_right_comm, mul-one, one-mul, mul-div_cancel, mul-mod_left, mul-le-mul_right, le-div_iff_mul-le, div-lt_iff_lt-mul, eq_of_mul-eq-mul_right}
+use native.Mathlib.Nat.{lt_of_lt_of_le, lt_of_not-le, mul_assoc, mul_right_comm, mul-one, one-mul, mul-div_cancel, mul-mod_left, mul-le-mul_right, le-div_iff_mul-le, div-lt_iff_lt-mul, eq_of_mul-eq-mul_right}
 use native.Mathlib.Decide.{ℕ_discrete}
 use native.Mathlib.Omega.{arith}
 use lib.IntN.{ℤ, pos, negsuc}
@@ -49,7 +49,7 @@ not-below (fin false m e) top h = simp (simp (le_is, one-mul) at h)
 -- ---- with at most 24 digits, a value from 1/16 on has no place below 2^-27
 places : (m k : ℕ) → m < 2 ^ 24 → 2 ^ suc k ≤ m * 1 * 16 → suc k ≤ 27
 places m k h g =
-    lt_of_not_le (λ (l : 27 ≤ k).
+    lt_of_not-le (λ (l : 27 ≤ k).
     let q : 28 ≤ suc k = omega arith in
     let p : 2 ^ 28 ≤ 2 ^ suc k = pow_mono q in
     omega arith)
@@ -154,7 +154,7 @@ not_nan r f h = and_i (fits binary64 r) (not (is_nan r)) (fits_widens r f) (numb
 
 -- a number between two powers of two
 exponent_below : (i j : ℕ) {R : ℕ} → 2 ^ i ≤ R → R < 2 ^ j → i < j
-exponent_below i j l u = lt_of_not_le (λ (g : j ≤ i). omega (arith, pow_mono g))
+exponent_below i j l u = lt_of_not-le (λ (g : j ≤ i). omega (arith, pow_mono g))
 
 -- from where its octave begins, if that is not the lowest, up to below the next, if there is one
 octave_ends : (R : ℕ) → ((octave_level R ≡ 0 → ⊥) → 2 ^ (27 + octave_level R) ≤ R) × (octave_level R < 4 → R < 2 ^ (28 + octave_level R))
