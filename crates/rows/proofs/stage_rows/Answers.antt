@@ -3,7 +3,6 @@ use mathlib.Core.Path.{◌≡◌, refl}
 use mathlib.Core.List.{List}
 use Prim.Native.Nat.{ℕ, ◌+◌, ◌-◌, ◌*◌, ◌%◌, ◌≤◌, ◌<◌}
 use native.Mathlib.Omega.{arith}
-use borrow.Author.Rules.{rules}
 use lib.IntN.{ℤ, pos, negsuc}
 use lib.ListN.{length, set, length-set}
 use Rattle.arith.specs.Limit.{limit}
@@ -13,18 +12,18 @@ use Rattle.book.proofs.Accepted.{Accepted, accepted, sizes_bounded, sizes_room}
 use Rattle.book.proofs.Bounds.{array_low}
 use Rattle.rows.specs.Rows.{row_width, narrowed, Positive, PutAt, PhasesOf, RowsOf}
 use Rattle.rows.proofs.ImpulseRows.{row_width_between, taps_fit, Whole, rows_whole, rows_marked, rows_unmarked}
-use Rattle.rows.proofs.stage_rows.Statement.{statement}
-use Rattle.rows.proofs.stage_rows.Tie as tie
+use Rattle.rows.proofs.stage_rows.Goals as goal
+use Rattle.rows.proofs.stage_rows.Goals.{After-put_row, After-row_of-row, After-row_width-width, Start}
 
-module _ (s : tie.Start) where
+module _ (s : Start) where
   valid : Accepted s.args.book.now
   valid = accepted s.args.book.now s.requires.0
 
   phases_are : s.args.phases ≡ (sizes_of s.args.book.now).phases
-  phases_are = s.pre.1
+  phases_are = s.requires.1
 
   taps_are : s.args.taps ≡ (sizes_of s.args.book.now).taps
-  taps_are = s.pre.2
+  taps_are = s.requires.2
 
   taps_bounds : (2 ≤ s.args.taps) × (s.args.taps ≤ 24) × (s.args.taps % 2 ≡ 0)
   taps_bounds = let f = sizes_bounded s.args.book.now valid in rw taps_are (f.taps_low, f.taps_high, f.taps-even)
@@ -39,45 +38,42 @@ module _ (s : tie.Start) where
   phase_room : 5 + s.args.taps ≤ length s.args.book.now
   phase_room = rw taps_are (omega (arith, (sizes_room s.args.book.now valid (sizes_of s.args.book.now) refl).0, array_low (sizes_bounded s.args.book.now valid)))
 
-module _ (c : tie.After-row-width) where
+module _ (c : After-row_width-width) where
   abbrev width : ℕ
-  width = c.row-width.result
+  width = c.row_width-width.result
 
   wide : c.before.args.taps ≤ width
-  wide = rw c.row-width.ensures (taps_fit c.before.args.taps (taps_bounds c.before).1)
+  wide = rw c.row_width-width.ensures (taps_fit c.before.args.taps (taps_bounds c.before).1)
 
   -- the table holds a row more than there are phases, and a word
   table_room : c.before.args.phases * width + width < length c.before.args.table.now
-  table_room = rw c.row-width.ensures (omega (arith, c.before.requires.3))
+  table_room = rw c.row_width-width.ensures (omega (arith, c.before.requires.3))
 
-row-width-requires : tie.Need-row-width-requires
-row-width-requires c κs = search rules
-
-phase-rows-requires : tie.Need-phase-rows-requires
-phase-rows-requires c κs =
+pub phase_rows-requires : goal.phase_rows-requires
+phase_rows-requires c =
     let s = c.before.before in
     let t = taps_bounds s in (
       t.0,
       t.2,
-      c.before.row-width.ensures,
+      c.before.row_width-width.ensures,
       record { few = t.1; wide = wide c.before; book_room = book_room s; table_room = omega (arith, table_room c.before); zeros = s.requires.4 },
       phases_few s,
     )
 
-sub-row-of : tie.Need-overflow-sub-row-of
-sub-row-of c = omega (arith, taps_bounds c.before.before.before.before)
+pub overflow_sub-taps : goal.overflow_sub-taps
+overflow_sub-taps c = omega (arith, taps_bounds c.before.before.before.before)
 
-row-of-requires : tie.Need-row-of-requires
-row-of-requires c κs = let s = c.before.before.before.before in omega (arith, taps_bounds s, phase_room s)
+pub row_of-row-requires : goal.row_of-row-requires
+row_of-row-requires c = let s = c.before.before.before.before in omega (arith, taps_bounds s, phase_room s)
 
-mul-put-row : tie.Need-overflow-mul-put-row
-mul-put-row c = omega (arith, table_room c.before.before.before.before.before)
+pub overflow_mul-phases : goal.overflow_mul-phases
+overflow_mul-phases c = omega (arith, table_room c.before.before.before.before.before)
 
-sub-put-row : tie.Need-overflow-sub-put-row
-sub-put-row c = omega (arith, taps_bounds c.before.before.before.before.before.before)
+pub overflow_sub-taps-2 : goal.overflow_sub-taps-2
+overflow_sub-taps-2 c = omega (arith, taps_bounds c.before.before.before.before.before.before)
 
-put-row-requires : tie.Need-put-row-requires
-put-row-requires c κs =
+pub put_row-requires : goal.put_row-requires
+put_row-requires c =
     let w = c.before.before.before.before.before in
     omega (arith, taps_bounds w.before, table_room w, wide w)
 
@@ -91,85 +87,53 @@ module _ (b : List ℤ) (a : Accepted b) {phases taps width : ℕ} (e : phases �
   staged_marked table whole positive = rows_marked b a table whole (rw (g, f, e) at positive)
 
 -- once the rows are written
-module _ (c : tie.After-put-row) where
-  abbrev r : tie.After-row-of
+module _ (c : After-put_row) where
+  abbrev r : After-row_of-row
   r = c.before.before
 
-  abbrev w : tie.After-row-width
+  abbrev w : After-row_width-width
   w = r.before.before.before.before
 
-  abbrev start : tie.Start
+  abbrev start : Start
   start = w.before
 
   abbrev table : List ℤ
-  table = c.put-row.new.0
+  table = c.put_row.new.table
 
   whole : Whole start.args.book.now (valid start) table
   whole =
-      staged_whole start.args.book.now (valid start) (phases_are start) (taps_are start) w.row-width.ensures r.before.before.phase-rows.ensures r.row_of.ensures c.put-row.ensures
+      staged_whole start.args.book.now (valid start) (phases_are start) (taps_are start) w.row_width-width.ensures r.before.before.phase_rows.ensures r.row_of-row.ensures c.put_row.ensures
       (omega (arith, table_room w))
 
-add-lobes : tie.Need-overflow-add-lobes
-add-lobes c = omega (arith, phases_few (start c.before.before.before))
+pub overflow_add-phases : goal.overflow_add-phases
+overflow_add-phases c = omega (arith, phases_few (start c.before.before))
 
-lobes-requires : tie.Need-lobes-requires
-lobes-requires c κs =
-    let p = c.before.before.before in
-    omega (arith, taps_bounds (start p), wide (w p), table_room (w p), row_width_between (start p).args.taps, (w p).row-width.ensures)
+pub lobes-requires : goal.lobes-requires
+lobes-requires c =
+    let p = c.before.before in
+    omega (arith, taps_bounds (start p), wide (w p), table_room (w p), row_width_between (start p).args.taps, (w p).row_width-width.ensures)
 
-sub-last : tie.Need-overflow-sub-last
-sub-last c = omega (arith, table_room (w c.before.before.before.before.before))
+pub overflow_sub-last : goal.overflow_sub-last
+overflow_sub-last c = omega (arith, table_room (w c.before.before.before.before))
 
-mul-table : tie.Need-overflow-mul-table
-mul-table c = omega arith
+pub slice_set_of-table : goal.slice_set_of-table
+slice_set_of-table c = omega (arith, table_room (w c.before.before.before.before))
 
-slice-set-of-table : tie.Need-slice-set-of-table
-slice-set-of-table c = omega (arith, table_room (w c.before.before.before.before.before))
+pub shape_of-table-then-lobes : goal.shape_of-table-then-lobes
+shape_of-table-then-lobes c = simp length-set (omega arith)
 
-same_length : tie.Need-same-length
-same_length c = simp length-set (omega arith)
-
-returns : tie.Need-returns
-returns c =
-    let p = c.before.before.before.before.before in
+pub returns-then-lobes : goal.returns-then-lobes
+returns-then-lobes c =
+    let p = c.before.before.before.before in
     let s = start p in
-    staged_marked s.args.book.now (valid s) (phases_are s) (taps_are s) (w p).row-width.ensures (table p) (whole p) (c.before.lobes.ensures c.if2.true)
+    staged_marked s.args.book.now (valid s) (phases_are s) (taps_are s) (w p).row_width-width.ensures (table p) (whole p) (c.before.lobes.ensures c.if-lobes.true)
 
-same-length-2 : tie.Need-same-length-2
-same-length-2 c = search rules
-
-returns-2 : tie.Need-returns-2
-returns-2 c =
-    let p = c.before.before.before.before.before in
+pub returns-else-lobes : goal.returns-else-lobes
+returns-else-lobes c =
+    let p = c.before.before.before.before in
     rows_unmarked (start p).args.book.now (valid (start p)) (whole p)
 
-same-length-3 : tie.Need-same-length-3
-same-length-3 c = search rules
-
-returns-3 : tie.Need-returns-3
-returns-3 c =
+pub returns-else-mark : goal.returns-else-mark
+returns-else-mark c =
     let p = c.before.before in
     rows_unmarked (start p).args.book.now (valid (start p)) (whole p)
-
-pub stage-rows-spec : {M : Type 1} → statement M
-stage-rows-spec =
-    tie.close
-    (tie.spec
-    row-width-requires
-    phase-rows-requires
-    sub-row-of
-    row-of-requires
-    mul-put-row
-    sub-put-row
-    put-row-requires
-    add-lobes
-    lobes-requires
-    sub-last
-    mul-table
-    slice-set-of-table
-    same_length
-    returns
-    same-length-2
-    returns-2
-    same-length-3
-    returns-3)

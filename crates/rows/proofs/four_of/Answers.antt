@@ -1,0 +1,26 @@
+-- `rows::four_of` meets its contract. The loop's invariant: the words passed are written. Assumes nothing.
+use mathlib.Core.Path.{refl}
+use Prim.Native.Nat.{◌+◌}
+use native.Mathlib.Omega.{arith}
+use lib.IntN.{pos}
+use lib.ListN.{length-set}
+use mir.Syntax.{w16}
+use mir.Val.{SFits}
+use Rattle.arith.specs.Lists.{at}
+use Rattle.arith.proofs.Bits.{reads}
+use Rattle.arith.proofs.Lists.{filled_more}
+use Rattle.rows.proofs.four_of.Goals as goal
+
+pub loop-k-init : goal.loop-k-init
+loop-k-init c = (omega arith, refl, λ j h. absurd (omega arith))
+
+pub loop-k-preserved : goal.loop-k-preserved
+loop-k-preserved c =
+    let t = c.before.before in
+    let inv = t.loop-k.invariant in
+    let a = t.before.args in
+    let word : SFits w16 (at a.words.now (a.from + t.loop-k.k)) = record { sfits = c.row-1.given } in
+    (omega arith, simp length-set inv.1, simp (reads, word) (filled_more (pos 0) (λ j. at a.words.now (a.from + j)) t.loop-k.row t.loop-k.k (omega arith) inv.2 refl))
+
+pub returns : goal.returns
+returns c k h = c.before.loop-k.invariant.2 k (omega arith)
