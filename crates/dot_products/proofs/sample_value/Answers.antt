@@ -1,7 +1,6 @@
 -- `dot_products::sample_value` meets its contract: every number on the way fits 64 bits, and what is rounded is the words' over 2^12. Assumes nothing.
 use mathlib.Core.Path.{◌≡◌, sym, ap, ◌∙◌}
 use Prim.Native.Nat.{ℕ, ◌*◌, ◌/◌, ◌^◌, ◌≤◌, ◌<◌}
-use native.Mathlib.Nat.{div-add-mod}
 use native.Mathlib.Omega.{arith}
 use lib.IntN.{ℤ, pos, nat_abs, ◌+ℤ◌, ◌-ℤ◌, ◌*ℤ◌}
 use lib.Signed.{lt_z_yes, le_z_yes, nat_abs-le}
@@ -31,11 +30,8 @@ module _ (c : Start) where
   abbrev whole : ℤ
   whole = b *ℤ pos 268435456 +ℤ pos e *ℤ step
 
-  offset_is : 16 * e ≡ c.args.offset
-  offset_is = omega (arith, div-add-mod c.args.offset 16, c.requires.1)
-
   e_small : e ≤ 2 ^ 28
-  e_small = omega (arith, offset_is, c.requires.0)
+  e_small = omega (arith, c.requires.0)
 
   e_low : e < 2 ^ 63
   e_low = omega (arith, e_small)
@@ -64,8 +60,8 @@ module _ (c : Start) where
   whole_fits : SFits w64 whole
   whole_fits = abs_fits w64 whole (omega (arith, whole_size))
 
-  sum_is : pos 4096 *ℤ whole ≡ pos (2 ^ 32) *ℤ (b *ℤ pos 256) +ℤ pos c.args.offset *ℤ (c.args.next *ℤ pos 256 -ℤ b *ℤ pos 256)
-  sum_is = law b c.args.next e ∙ ap (λ n. pos (2 ^ 32) *ℤ (b *ℤ pos 256) +ℤ pos n *ℤ (c.args.next *ℤ pos 256 -ℤ b *ℤ pos 256)) offset_is
+  sum_is : 16 * e ≡ c.args.offset → pos 4096 *ℤ whole ≡ pos (2 ^ 32) *ℤ (b *ℤ pos 256) +ℤ pos c.args.offset *ℤ (c.args.next *ℤ pos 256 -ℤ b *ℤ pos 256)
+  sum_is offset_is = law b c.args.next e ∙ ap (λ n. pos (2 ^ 32) *ℤ (b *ℤ pos 256) +ℤ pos n *ℤ (c.args.next *ℤ pos 256 -ℤ b *ℤ pos 256)) offset_is
     where
       law : (x y : ℤ) (n : ℕ) → pos 4096 *ℤ (x *ℤ pos 268435456 +ℤ pos n *ℤ (y -ℤ x)) ≡ pos (2 ^ 32) *ℤ (x *ℤ pos 256) +ℤ pos (16 * n) *ℤ (y *ℤ pos 256 -ℤ x *ℤ pos 256)
       law x y n = simp products (simp terms (omega arith))
@@ -99,7 +95,8 @@ pub returns : goal.returns
 unfolding mixed_value
 returns c =
     let s = c.before in
+    let offset_is : 16 * e s ≡ s.args.offset = omega (arith, s.requires.1) in
     let fits : SFits w64 c.near.result = record { sfits = c.near.type_inv } in
     let rounded : c.near.result ≡ near (whole s) (2 ^ 34) =
     simp (reads, e_low s, s.ranges.base, s.ranges.next, base_fits s, step_fits s, product-fits s, whole_fits s) at c.near.ensures in
-    simp (reads, fits) (rounded ∙ sym (near_scale (whole s) (2 ^ 34) {c = 4096} (omega arith) (omega arith)) ∙ ap (λ x. near x (16384 * 2 ^ 32)) (sum_is s))
+    simp (reads, fits) (rounded ∙ sym (near_scale (whole s) (2 ^ 34) {c = 4096} (omega arith) (omega arith)) ∙ ap (λ x. near x (16384 * 2 ^ 32)) (sum_is s offset_is))
