@@ -5,6 +5,8 @@
 ghost use Rattle.std.specs.Prelude.{◌≡◌, ◌++◌, ◌∷◌, ◌+◌, ◌≤◌, length, take};
 ghost use Rattle.text.specs.Decimal.{decimal};
 
+use itoa::Buffer;
+
 // Writes bytes behind the first `at` of a text. Hands back where they end.
 pub fn append(text: &mut [u8], at: usize, bytes: &[u8]) -> usize
     requires { at + length bytes.now ≤ length text.old }
@@ -23,9 +25,8 @@ pub fn append_decimal(text: &mut [u8], at: usize, n: u64) -> usize
     requires { at + 20 ≤ length text.old }
     ensures { (take result text.new ≡ take at text.old ++ decimal n) × (result ≤ at + 20) }
 {
-    let mut digits = [0u8; 20];
-    let count = io::decimal(n, &mut digits);
-    append(text, at, &digits[..count])
+    let mut digits = Buffer::new();
+    append(text, at, digits.format(n).as_bytes())
 }
 
 // The same of a blank and a number.
