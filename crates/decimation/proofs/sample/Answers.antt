@@ -11,13 +11,13 @@ use Rattle.arith.proofs.Bits.{reads}
 use Rattle.arith.proofs.Floor.{near_bound}
 use Rattle.arith.proofs.Integers.{abs_fits}
 use Rattle.decimation.specs.Inner.{sample_of}
-use Rattle.decimation.proofs.sample.Statement.{statement}
-use Rattle.decimation.proofs.sample.Tie as tie
+use Rattle.decimation.proofs.sample.Goals as goal
+use Rattle.decimation.proofs.sample.Goals.{After-near}
 
-near-requires : tie.Need-near-requires
-near-requires c κs = simp (reads, c.ranges.sum) (omega arith, (lt_z_yes tt, le_z_yes tt))
+pub near-requires : goal.near-requires
+near-requires c = simp (reads, c.ranges.sum) (record { fact_1 = omega arith; fact_2 = lt_z_yes tt; fact_3 = le_z_yes tt })
 
-module _ (c : tie.After-near) where
+module _ (c : After-near) where
   rounded_is : c.near.result ≡ near c.before.args.sum (2 ^ 22)
   rounded_is = simp (reads, c.before.ranges.sum) at c.near.ensures
 
@@ -25,23 +25,20 @@ module _ (c : tie.After-near) where
   rounded_small = rw rounded_is (near_bound c.before.args.sum (omega arith) (2 ^ 22) (omega arith))
 
   rounded_fits : SFits w64 c.near.result
-  rounded_fits = record { sfits = c.near.type-inv }
+  rounded_fits = record { sfits = c.near.type_inv }
 
   rounded_fits_32 : SFits w32 c.near.result
   rounded_fits_32 = abs_fits w32 c.near.result (omega (arith, rounded_small))
 
-cast-limit16 : tie.Need-overflow-cast-limit16
-cast-limit16 c = simp (reads, rounded_fits c) (rounded_fits_32 c)
+pub overflow_cast-near : goal.overflow_cast-near
+overflow_cast-near c = simp (reads, rounded_fits c) (rounded_fits_32 c)
 
-limit16-requires : tie.Need-limit16-requires
-limit16-requires c κs = simp (reads, rounded_fits c, rounded_fits_32 c) (omega (arith, rounded_small c))
+pub limit16-requires : goal.limit16-requires
+limit16-requires c = simp (reads, rounded_fits c, rounded_fits_32 c) (omega (arith, rounded_small c))
 
-returns : tie.Need-returns
+pub returns : goal.returns
 unfolding sample_of
 returns c =
     let n = c.before in
-    let fits : SFits w16 c.limit16.result = record { sfits = c.limit16.type-inv } in
+    let fits : SFits w16 c.limit16.result = record { sfits = c.limit16.type_inv } in
     simp (reads, fits) (rw (← rounded_is n) (simp (reads, rounded_fits n, rounded_fits_32 n) at c.limit16.ensures))
-
-pub sample-spec : {M : Type 1} → statement M
-sample-spec = tie.close (tie.spec near-requires cast-limit16 limit16-requires returns)
