@@ -34,6 +34,7 @@ def main():
     args = [a for a in args if not a.startswith('--')]
     folder, table = args[0], json.load(open(args[1]))
     only = set(args[2:])
+    read_clauses(folder)
     crate = os.path.basename(os.path.abspath(folder))
     for key, v in sorted(table.items()):
         m = re.fullmatch(r'Rattle-' + crate + r'-proofs\.(.*)\.Lts', key)
@@ -64,6 +65,28 @@ def paths(n):
     if n == 1: return ['']
     return ['.1' * i + ('.0' if i < n - 1 else '') for i in range(n)]
 
+CLAUSES = {}
+
+def read_clauses(folder):
+    """crate::module::fn -> the names of its ensures, of all crates beside this one"""
+    root = os.path.dirname(os.path.abspath(folder))
+    for crate in sorted(os.listdir(root)):
+        src = os.path.join(root, crate, 'src')
+        for d, _, files in os.walk(src):
+            for f in files:
+                if not f.endswith('.rt'): continue
+                rel = os.path.relpath(os.path.join(d, f), src)[:-3].split('/')
+                mod = [crate] + [x for x in rel if x not in ('lib', 'main', 'mod')]
+                owner, fnname = None, None
+                for line in open(os.path.join(d, f), encoding='utf-8'):
+                    m = re.match(r"impl(?:<[^>]*>)? (?:.* for )?([A-Za-z0-9_]+)", line)
+                    if m: owner = m.group(1)
+                    elif line.startswith('}'): owner = None
+                    m = re.match(r"( *)(?:pub(?:\([a-z]+\))? )?(?:unsafe )?(?:extern \"C\" )?fn ([a-z0-9_]+)", line)
+                    if m: fnname = '::'.join(mod + ([owner] if owner and m.group(1) else []) + [m.group(2)])
+                    m = re.match(r" *ensures(?: ([a-z0-9_]+))? \{", line)
+                    if m and fnname: CLAUSES.setdefault(fnname, []).append(m.group(1))
+
 def convert(crate, fn, v, text, keep):
     report = []
     # ---- projections
@@ -71,14 +94,16 @@ def convert(crate, fn, v, text, keep):
     clause_of = {}
     for (old, parent, (fo, fnew), callee, extra), clauses, newname in zip(v['places'], v['clauses'], v['places_by_name']):
         if fo:
-            for o in {fo, fo.replace('_', '-')}:
+            for o in {fo, fo.replace('_', '-'), fo + '_lem'}:
                 if o in fields and fields[o] != fnew: report.append(f'field {o} -> {fields[o]} or {fnew}')
                 fields.setdefault(o, fnew)
             if clauses: clause_of[fnew] = clauses
     callee_of = {f[1]: c for (_, _, f, c, _) in v['places'] if c}
     def proj(m):
+        before = re.search(r"\.([A-Za-z0-9_'-]+)$", m.string[:m.start()])
+        if before and before.group(1) != 'before': return m.group(0)
         return '.' + fields.get(m.group(1), m.group(1))
-    text = re.sub(r"\.([A-Za-z][A-Za-z0-9_'-]*)", lambda m: '.' + {'type-inv': 'type_inv', 'fits': 'ranges', 'inv': 'invariant'}.get(m.group(1), m.group(1)), text)
+    text = re.sub(r"\.([A-Za-z][A-Za-z0-9_'-]*)", lambda m: '.' + {'type-inv': 'type_inv', 'fits': 'ranges', 'inv': 'invariant', 'ok': 'type_inv', 'left': 'false', 'taken': 'true', 'well-formed': 'well_formed'}.get(m.group(1), m.group(1)), text)
     fpat = re.compile(r"(?<=\S)\.([A-Za-z][A-Za-z0-9_'-]*)(?=[\s().,;\]\[]|$)")
     text = '\n'.join(l if l.startswith('use ') else fpat.sub(proj, l) for l in text.split('\n'))
     for (old, parent, (fo, fnew), callee, extra) in v['places']:
@@ -91,8 +116,18 @@ def convert(crate, fn, v, text, keep):
             pre = '.1' * i + '.0'
             for w in ('last', 'new'):
                 text = re.sub(re.escape('.' + field + '.' + w + pre) + r"(?![0-9.]*[0-9]\b(?<!\.0))(?=[^0-9])", lambda m: '.' + field + '.new.' + names[i], text)
-        if field in clause_of:
-            cl = clause_of[field]
+        cl = CLAUSES.get(callee) or []
+        if len(cl) > 1:
+            text = text.replace('.' + field + '.ensures.fields', '.' + field + '.ensures.' + cl[0])
+            for m in list(re.finditer(r"let ([A-Za-z0-9_'₀-₉-]+) = [^\n]*\." + re.escape(field) + r"\.ensures in", text)):
+                w = m.group(1)
+                end = text.find('\n\n', m.end())
+                end = len(text) if end < 0 else end
+                part = text[m.end():end]
+                for path, name in sorted(zip(paths(len(cl)), cl), key=lambda x: -len(x[0])):
+                    part = re.sub(SEP + re.escape(w + path) + r"(?![0-9])", lambda q: w + '.' + name, part)
+                part = re.sub(SEP + re.escape(w + '.fields') + END, lambda q: w + '.' + cl[0], part)
+                text = text[:m.end()] + part + text[end:]
             for path, name in sorted(zip(paths(len(cl)), cl), key=lambda x: -len(x[0])):
                 text = re.sub(re.escape('.' + field + '.ensures' + path) + r"(?![0-9])", lambda m: '.' + field + '.ensures.' + name, text)
     # ---- pre
@@ -101,6 +136,17 @@ def convert(crate, fn, v, text, keep):
         fl = v['pre']['fields']
         for path, name in sorted(zip(paths(len(fl)), fl), key=lambda x: -len(x[0])):
             text = re.sub(r"(?<![A-Za-z0-9_'-])((?:[A-Za-z][A-Za-z0-9_'₀-₉-]*|\))(?:\.before)*)\.requires" + re.escape(path) + r"(?![0-9])", lambda m: m.group(1) + '.requires.' + name, text)
+    if v['pre'] and v['pre'].get('fields'):
+        fl = v['pre']['fields']
+        for m in reversed(list(re.finditer(r"let ([A-Za-z0-9_'₀-₉-]+) = [^\n]*\.requires in", text))):
+            w = m.group(1)
+            end = text.find('\n\n', m.end())
+            end = len(text) if end < 0 else end
+            part = text[m.end():end]
+            for path, name in sorted(zip(paths(len(fl)), fl), key=lambda x: -len(x[0])):
+                part = re.sub(SEP + re.escape(w + path) + r"(?![0-9])", lambda q: w + '.' + name, part)
+            text = text[:m.end()] + part + text[end:]
+    text = re.sub(r"\.(wrapping_[a-z]+_[a-z0-9]+(?:-[A-Za-z0-9_]+)?|wrapping_[a-z]+(?:-[A-Za-z0-9_]+)?)\.ensures(?!\.)", r".\1.ensures.value", text)
     # ---- places and goals
     loops = [x[0][0] for x in v['loops']]
     binders = [f'invariant-{l}' for l in loops] + [f'decreases-{l}' for l in loops]
@@ -199,9 +245,15 @@ def convert(crate, fn, v, text, keep):
         joined = re.sub(r"^" + re.escape(name) + r"((?: [^\s=]+)*) =", lambda m: kind + m.group(1).replace(' κs', '') + ' =', joined, flags=re.M)
         mm = re.search(r"=\s*(.*)$", joined.split('\n', 1)[1] if '\n' in joined else joined, re.S)
         body = mm.group(1).strip() if mm else ''
-        if not keep and body in ('search rules', 'omega arith', 'tt'):
+        if not keep and body in ('search rules', 'omega arith', 'tt') and '\nunfolding ' not in joined:
             continue
         joined = ask(joined, kind, v, report)
+        arm = re.search(r"-(in[-_][A-Za-z0-9_-]+)$", kind)
+        arms = {f[1] for (_, _, f, _, _) in v['places'] if f[1] and re.match(r"in[-_]", f[1])}
+        if arm and arm.group(1) in arms:
+            first = fields.get('match')
+            if first and first != arm.group(1): joined = joined.replace('.' + first + '.', '.' + arm.group(1) + '.')
+            joined = re.sub(r"\." + re.escape(arm.group(1)) + r"\.keys\d+", '.' + arm.group(1) + '.is', joined)
         ans.append('\n'.join(comment + [joined]))
     text_ans = '\n'.join(x.rstrip() + '\n' for x in ans)
     # which helpers do invariants use
