@@ -1,0 +1,79 @@
+-- `octave::groups::sample_block` meets its contract: the sums are those of sixty-four words. Assumes nothing.
+use mathlib.Core.Path.{◌≡◌, sym, ap, ◌∙◌}
+use mathlib.Core.List.{List}
+use Prim.Native.Nat.{ℕ, ◌+◌, ◌-◌, ◌*◌, ◌/◌, ◌%◌, ◌<◌}
+use native.Mathlib.Omega.{arith}
+use lib.IntN.{ℤ}
+use lib.ListN.{length}
+use Rattle.arith.specs.Floor.{near}
+use Rattle.arith.specs.Lists.{at, part, overwrite}
+use Rattle.pair_sums.specs.Pairs.{sample_part}
+use Rattle.octave.specs.Octave.{level_sum}
+use Rattle.octave.proofs.PairSums.{sample_small, Block, block, all_small, sample_lines, block_words}
+use Rattle.octave.proofs.groups.sample_block.Goals as goal
+use Rattle.octave.proofs.groups.sample_block.Goals.{After-sample_words, After-write_samples, Start}
+
+module _ (s : Start) where
+  abbrev taps : List ℤ
+  taps = s.args.taps.now
+
+  abbrev rows : List ℤ
+  rows = s.args.rows.now
+
+  abbrev store : List ℤ
+  store = s.args.store.now
+
+  abbrev level : List ℤ
+  level = part store s.args.start s.args.words
+
+  abbrev n : ℕ
+  n = s.args.n
+
+  here : Block store s.args.start s.args.words n (length taps)
+  here = block store s.args.start s.args.words n (length taps) (omega arith) (omega arith) (omega arith)
+
+-- the words in one part
+module _ (w : After-write_samples) where
+  abbrev s : Start
+  s = w.before.before.before
+
+  abbrev highs : List ℤ
+  highs = w.write_samples.new.high
+
+  staged : (i : ℕ) → i < 2 * length (taps s) + 126 → at highs i ≡ sample_part (at (level s) (2 * n s + 1 - length (taps s) + i))
+  staged i l = w.write_samples.ensures.by_index i (omega arith) ∙ ap sample_part ((here s).lent_at i (omega (arith, (here s).lent_length)))
+
+-- the words
+module _ (r : After-sample_words) where
+  abbrev w : After-write_samples
+  w = r.before.before
+
+  words_are : let s = s w in (i : ℕ) → i < 64 → at r.sample_words.new.upper i ≡ near (level_sum (taps s) (level s) (n s + i)) 16384
+  words_are i l =
+      let s = s w in
+      let p = i / 16 in
+      let j = i % 16 in
+      let lp : p < 4 = omega arith in
+      let lj : j < 16 = omega arith in
+      let e : 16 * p + j ≡ i = omega arith in
+      ap (at r.sample_words.new.upper) (sym e)
+      ∙ r.sample_words.ensures.by_index p j lp lj
+      ∙ ap (λ z. near z 16384) (sample_lines (taps s) s.requires.in_bounds.2 s.requires.in_bounds.3 s.requires.in_bounds.0 (rows s) s.requires.in_bounds.4 (level s) (n s) s.requires.taps_len_bound.0 p j lp lj (highs w) s.requires.high_len.2 (staged w) ∙ ap (λ z. level_sum (taps s) (level s) (n s + z)) e)
+
+pub write_samples-requires : goal.write_samples-requires
+write_samples-requires c = let s = c.before.before in
+    (omega (arith, (here s).lent_length), omega arith, s.requires.high_len.0)
+
+pub sample_words-requires : goal.sample_words-requires
+sample_words-requires c = let w = c.before in
+    let s = s w in
+    (s.requires.in_bounds.1, omega arith, omega arith, s.requires.high_len.1, all_small (taps s) s.requires.in_bounds.2 s.requires.in_bounds.3 s.requires.in_bounds.0 (rows s) s.requires.in_bounds.4 (level s) (n s) s.requires.taps_len_bound.0 (highs w) sample_part (staged w) 32768 (λ k. sample_small (at (level s) k)))
+
+pub returns : goal.returns
+returns c = let r = c.before.before.before in
+    let w = w r in
+    let s = s w in record {
+      store_after = c.before.write_words.ensures
+          ∙ ap (overwrite (store s) (s.args.start + s.args.words + n s)) (block_words (taps s) (level s) r.sample_words.new.upper (n s) (λ i. i) (here s).inside (words_are r));
+      high_len_2 = (w.write_samples.ensures.high_len, r.sample_words.ensures.upper_len);
+    }
