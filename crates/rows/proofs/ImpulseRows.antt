@@ -175,7 +175,7 @@ module _ (b : List ℤ) (a : Accepted b) where
     pub rest : at table (length table - 1) ≡ pos 0
 
   -- behind the phases' rows comes that of phase 0, from its second impulse on
-  pub rows_whole : {row table table₁ : List ℤ} → PhasesOf (narrowed b) N W M table → ((k : ℕ) → k < N - 1 → at row k ≡ narrow (at b (6 + k))) → PutAt row (M * W) (N - 1) table table₁
+  pub rows_whole : {row table table₁ : List ℤ} → PhasesOf (narrowed b) N W M table → ((k : ℕ) → k < N - 1 → at row k ≡ narrowed b (suc k)) → PutAt row (M * W) (N - 1) table table₁
       → (M + 1) * W < length table₁ → Whole table₁
   unfolding impulse_word
   rows_whole {row} {table} {table₁} p words put room = record {
@@ -188,8 +188,8 @@ module _ (b : List ℤ) (a : Accepted b) where
       at_row q k h l (yes m) d = put.before (q * W + k) (row_below m l) ∙ p.word q k m l ∙ narrow_row q k m
       at_row q k h l (no m) (yes d) =
           let e : q ≡ M = omega arith in
-          let place : 6 + k ≡ 5 + (0 * N + suc k) = omega arith in
-          rw e (put.word k (omega arith) ∙ words k (omega arith) ∙ ap (λ n. narrow (at b n)) place ∙ narrow_same (0 * N + suc k) (row_below (sizes_bounded b a).phases_low d)
+          let place : suc k ≡ 0 * N + suc k = omega arith in
+          rw e (put.word k (omega arith) ∙ words k (omega arith) ∙ ap (narrowed b) place ∙ narrow_same (0 * N + suc k) (row_below (sizes_bounded b a).phases_low d)
           ∙ sym (impulse_past b k d) ∙ sym (row_word_tap M k (omega arith)))
       at_row q k h l (no m) (no d) =
           let e : q ≡ M = omega arith in

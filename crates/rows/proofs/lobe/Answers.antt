@@ -14,13 +14,6 @@ use Rattle.arith.proofs.Linear.{linear, le_yes}
 use Rattle.rows.proofs.lobe.Goals as goal
 use Rattle.rows.proofs.lobe.Goals.{After-result-1, After-result-2-1}
 
-one_positive : (x y : ℤ) → pos 1 ≤ℤ (x +ℤ y) → (pos 1 ≤ℤ x) ⊎ (pos 1 ≤ℤ y)
-one_positive x y h = go (≤ℤ-or-<ℤ (pos 1) x)
-  where
-    go : (pos 1 ≤ℤ x) ⊎ (x <ℤ pos 1) → (pos 1 ≤ℤ x) ⊎ (pos 1 ≤ℤ y)
-    go (inl l) = inl l
-    go (inr l) = inr (simp linear (omega (arith, simp linear at h, simp linear at l)))
-
 -- the two numbers
 module _ (c : After-result-1) where
   abbrev x : ℤ
@@ -49,4 +42,10 @@ pub overflow_add-result : goal.overflow_add-result
 overflow_add-result c = simp (reads, to_z_of_z_from w16, x_fits c.before, y_fits c) (sum_fits c)
 
 pub returns : goal.returns
-returns c e = one_positive (x c.before) (y c) (le_yes (simp (reads, to_z_of_z_from w16, x_fits c.before, y_fits c, sum_fits c) at e))
+returns c e = go (≤ℤ-or-<ℤ (pos 1) (x c.before))
+  where
+    go : (pos 1 ≤ℤ x c.before) ⊎ (x c.before <ℤ pos 1) → (pos 1 ≤ℤ x c.before) ⊎ (pos 1 ≤ℤ y c)
+    go (inl l) = inl l
+    go (inr l) =
+        let sum : pos 1 ≤ℤ (x c.before +ℤ y c) = le_yes (simp (reads, to_z_of_z_from w16, x_fits c.before, y_fits c, sum_fits c) at e) in
+        inr (simp linear (omega (arith, simp linear at sum, simp linear at l)))

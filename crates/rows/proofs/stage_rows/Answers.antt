@@ -1,7 +1,7 @@
 -- `rows::stage_rows` meets its contract: the rows of the phases, and behind them phase 0 from its second impulse on. Assumes nothing.
-use mathlib.Core.Path.{◌≡◌, refl}
+use mathlib.Core.Path.{◌≡◌, refl, ap, ◌∙◌}
 use mathlib.Core.List.{List}
-use Prim.Native.Nat.{ℕ, ◌+◌, ◌-◌, ◌*◌, ◌%◌, ◌≤◌, ◌<◌}
+use Prim.Native.Nat.{ℕ, suc, ◌+◌, ◌-◌, ◌*◌, ◌%◌, ◌≤◌, ◌<◌}
 use native.Mathlib.Omega.{arith}
 use lib.IntN.{ℤ, pos, negsuc}
 use lib.ListN.{length, set, length-set}
@@ -79,7 +79,7 @@ put_row-requires c =
 
 -- sizes that are the book's
 module _ (b : List ℤ) (a : Accepted b) {phases taps width : ℕ} (e : phases ≡ (sizes_of b).phases) (f : taps ≡ (sizes_of b).taps) (g : width ≡ row_width taps) where
-  staged_whole : {row table table₁ : List ℤ} → PhasesOf (narrowed b) taps width phases table → ((k : ℕ) → k < taps - 1 → at row k ≡ limit (negsuc 32767) (pos 32767) (at b (6 + k)))
+  staged_whole : {row table table₁ : List ℤ} → PhasesOf (narrowed b) taps width phases table → ((k : ℕ) → k < taps - 1 → at row k ≡ narrowed b (suc k))
       → PutAt row (phases * width) (taps - 1) table table₁ → phases * width + width < length table₁ → Whole b a table₁
   staged_whole p words put room = rows_whole b a (rw (g, f, e) at p) (rw f at words) (rw (g, f, e) at put) (rw (← e, ← f, ← g) (omega (arith, room)))
 
@@ -100,9 +100,9 @@ module _ (c : After-put_row) where
   abbrev table : List ℤ
   table = c.put_row.new.table
 
-  whole : Whole start.args.book.now (valid start) table
-  whole =
-      staged_whole start.args.book.now (valid start) (phases_are start) (taps_are start) w.row_width-width.ensures r.before.before.phase_rows.ensures r.row_of-row.ensures c.put_row.ensures
+  whole : ((k : ℕ) → k < start.args.taps - 1 → at r.row_of-row.result k ≡ narrowed start.args.book.now (suc k)) → Whole start.args.book.now (valid start) table
+  whole words =
+      staged_whole start.args.book.now (valid start) (phases_are start) (taps_are start) w.row_width-width.ensures r.before.before.phase_rows.ensures words c.put_row.ensures
       (omega (arith, table_room w))
 
 pub overflow_add-phases : goal.overflow_add-phases
@@ -126,14 +126,14 @@ pub returns-then-lobes : goal.returns-then-lobes
 returns-then-lobes c =
     let p = c.before.before.before.before in
     let s = start p in
-    staged_marked s.args.book.now (valid s) (phases_are s) (taps_are s) (w p).row_width-width.ensures (table p) (whole p) (c.before.lobes.ensures c.if-lobes.true)
+    staged_marked s.args.book.now (valid s) (phases_are s) (taps_are s) (w p).row_width-width.ensures (table p) (whole p (λ k h. (r p).row_of-row.ensures k h ∙ ap (λ i. limit (negsuc 32767) (pos 32767) (at (start p).args.book.now i)) (omega arith))) (c.before.lobes.ensures c.if-lobes.true)
 
 pub returns-else-lobes : goal.returns-else-lobes
 returns-else-lobes c =
     let p = c.before.before.before.before in
-    rows_unmarked (start p).args.book.now (valid (start p)) (whole p)
+    rows_unmarked (start p).args.book.now (valid (start p)) (whole p (λ k h. (r p).row_of-row.ensures k h ∙ ap (λ i. limit (negsuc 32767) (pos 32767) (at (start p).args.book.now i)) (omega arith)))
 
 pub returns-else-mark : goal.returns-else-mark
 returns-else-mark c =
     let p = c.before.before in
-    rows_unmarked (start p).args.book.now (valid (start p)) (whole p)
+    rows_unmarked (start p).args.book.now (valid (start p)) (whole p (λ k h. (r p).row_of-row.ensures k h ∙ ap (λ i. limit (negsuc 32767) (pos 32767) (at (start p).args.book.now i)) (omega arith)))
