@@ -4,11 +4,18 @@ use mathlib.Core.Bool.{Bool, true, false, cond}
 use mathlib.Core.Logic.{◌⊎◌, inl, inr}
 use Prim.Native.Nat.{ℕ, ◌≤◌}
 use native.Mathlib.Omega.{arith}
-use lib.IntN.{ℤ, pos, neg_ℤ, nat_abs, ◌-ℤ◌}
+use lib.IntN.{ℤ, pos, negsuc, neg_ℤ, nat_abs, ◌-ℤ◌}
 use lib.Signed.{lt_z, ◌≤ℤ◌, ◌<ℤ◌, ≤ℤ_refl}
 use Rattle.arith.specs.Limit.{limit}
 use Rattle.arith.proofs.Linear.{linear, signed, lt_yes, lt_no}
 use Rattle.arith.proofs.Integers.{<ℤ-≤ℤ, abs-≤, ≤-abs, ≤ℤ-antisymm}
+
+-- the ends of 16 bits
+abbrev pub low : ℤ
+low = negsuc 32767
+
+abbrev pub high : ℤ
+high = pos 32767
 
 module _ (lo hi x : ℤ) where
   pub limit_between : lo ≤ℤ hi → (lo ≤ℤ limit lo hi x) × (limit lo hi x ≤ℤ hi)

@@ -51,6 +51,13 @@ even_down n =
 
 -- ---- with nearly a half added
 
+-- what is added to the lower part, and the sum
+abbrev pub nearly_of : (half unit odd : ℤ) → ℤ
+nearly_of half unit odd = half *ℤ unit -ℤ pos 1
+
+abbrev pub raised_of : (low nearly odd : ℤ) → ℤ
+raised_of low nearly odd = odd +ℤ (low +ℤ nearly)
+
 module _ (a : ℤ) {h : ℕ} (l : 0 < h) where
   twice : 0 < 2 * h
   twice = omega (arith, l)

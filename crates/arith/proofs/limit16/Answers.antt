@@ -1,23 +1,17 @@
 -- `arith::limit16` meets its contract: the limit by two positive parts, at the ends of 16 bits. Assumes nothing.
 use mathlib.Core.Path.{◌≡◌}
 use native.Mathlib.Omega.{arith}
-use lib.IntN.{ℤ, pos, negsuc, ◌-ℤ◌}
+use lib.IntN.{ℤ, ◌-ℤ◌}
 use lib.Signed.{◌≤ℤ◌, le_z_yes}
 use mir.Syntax.{w16, w32}
 use mir.Val.{SFits}
 use mir.Facts.{sfits_widen}
 use Rattle.arith.specs.Limit.{limit}
 use Rattle.arith.proofs.Bits.{reads}
-use Rattle.arith.proofs.Limit.{Positive, positive, not_below_0, limit_by_parts, limit_between}
+use Rattle.arith.proofs.Limit.{low, high, Positive, positive, not_below_0, limit_by_parts, limit_between}
 use Rattle.arith.proofs.Linear.{linear}
 use Rattle.arith.proofs.limit16.Goals as goal
 use Rattle.arith.proofs.limit16.Goals.{After-positive_part-left, After-positive_part-risen, Start}
-
-abbrev low : ℤ
-low = negsuc 32767
-
-abbrev high : ℤ
-high = pos 32767
 
 ends : low ≤ℤ high
 ends = le_z_yes tt

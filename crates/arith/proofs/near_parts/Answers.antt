@@ -11,7 +11,7 @@ use Rattle.arith.specs.Floor.{floor_div}
 use Rattle.arith.proofs.Bits.{reads}
 use Rattle.arith.proofs.Linear.{linear, signed, abs-*}
 use Rattle.arith.proofs.Integers.{<ℤ-≤ℤ, abs-≤, abs_above, abs_triangle, abs_fits}
-use Rattle.arith.proofs.Rounding.{odd_of, odd_small, part_small, raised_small, near_parts}
+use Rattle.arith.proofs.Rounding.{odd_of, odd_small, part_small, nearly_of, raised_of, raised_small, near_parts}
 use Rattle.arith.proofs.near_parts.Goals as goal
 use Rattle.arith.proofs.near_parts.Goals.{After-excess-odd, After-floor_shift, After-floor_shift-3, Start}
 
@@ -118,10 +118,10 @@ module _ (c : After-excess-odd) where
   odd_range = rw odd_is (odd_small (n start))
 
   abbrev nearly : ℤ
-  nearly = half start *ℤ unit start -ℤ pos 1
+  nearly = nearly_of (half start) (unit start) odd
 
   abbrev raised : ℤ
-  raised = odd +ℤ (low start +ℤ nearly)
+  raised = raised_of (low start) nearly odd
 
   raised_is : raised ≡ low start +ℤ (pos (h start * u start) -ℤ pos 1) +ℤ odd_of (n start)
   raised_is =
@@ -130,10 +130,10 @@ module _ (c : After-excess-odd) where
       ∙ ap₂ (λ p o. low start +ℤ (p -ℤ pos 1) +ℤ o) (product_is start) odd_is
 
   nearly_fits : SFits w64 nearly
-  nearly_fits = simp linear (omega (signed, simp linear at (product_small start)))
+  nearly_fits = simp linear (omega (signed, simp linear at (product_small start), simp linear at odd_range))
 
   added_fits : SFits w64 (low start +ℤ nearly)
-  added_fits = simp linear (omega (signed, simp linear at (product_small start), simp linear at start.requires.unit_bound.1))
+  added_fits = simp linear (omega (signed, simp linear at (product_small start), simp linear at start.requires.unit_bound.1, simp linear at odd_range))
 
   small : nat_abs raised + 2 ^ 34 ≤ 2 ^ 63
   small = simp linear (omega (signed, simp linear at (product_small start), simp linear at start.requires.unit_bound.1, simp linear at odd_range))
@@ -145,10 +145,10 @@ pub overflow_mul-raised : goal.overflow_mul-raised
 overflow_mul-raised c = let s = start c in simp (reads, s.ranges.half, s.ranges.unit) (product-fits s)
 
 pub overflow_sub-raised : goal.overflow_sub-raised
-overflow_sub-raised c = let s = start c in simp (reads, s.ranges.half, s.ranges.unit, product-fits s) (nearly_fits c)
+overflow_sub-raised c = let s = start c in simp (reads, s.ranges.half, s.ranges.unit, product-fits s, odd_fits c) (nearly_fits c)
 
 pub overflow_add-raised : goal.overflow_add-raised
-overflow_add-raised c = let s = start c in simp (reads, s.ranges.low, s.ranges.half, s.ranges.unit, product-fits s, nearly_fits c) (added_fits c)
+overflow_add-raised c = let s = start c in simp (reads, s.ranges.low, s.ranges.half, s.ranges.unit, product-fits s, odd_fits c, nearly_fits c) (added_fits c)
 
 pub overflow_add-raised-2 : goal.overflow_add-raised-2
 overflow_add-raised-2 c =
