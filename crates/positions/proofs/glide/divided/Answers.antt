@@ -1,5 +1,4 @@
 -- `positions::glide::divided` meets its contract: c times the floor lies at most c below z, so each number fits. Assumes nothing.
-use borrow.Author.Rules.{rules}
 use mathlib.Core.Path.{◌≡◌, sym, ap, subst, ◌∙◌}
 use Prim.Native.Nat.{ℕ, ◌^◌, ◌<◌}
 use native.Mathlib.Omega.{arith}
@@ -13,13 +12,13 @@ use Rattle.arith.proofs.Integers.{abs_fits}
 use Rattle.arith.proofs.Floor.{floor-≤, floor-<}
 use Rattle.positions.specs.Inner.{quotient}
 use Rattle.positions.proofs.Glides.{rest_is, rest_high}
-use Rattle.positions.proofs.glide.divided.Statement.{statement}
-use Rattle.positions.proofs.glide.divided.Tie as tie
+use Rattle.positions.proofs.glide.divided.Goals as goal
+use Rattle.positions.proofs.glide.divided.Goals.{After-floor_div-floor, Start}
 
-count_low : (s : tie.Start) → s.args.c < 2 ^ 63
+count_low : (s : Start) → s.args.c < 2 ^ 63
 count_low s = omega arith
 
-module _ (c : tie.After-floor-div) where
+module _ (c : After-floor_div-floor) where
   abbrev z : ℤ
   z = c.before.args.z
 
@@ -27,13 +26,13 @@ module _ (c : tie.After-floor-div) where
   n = c.before.args.c
 
   abbrev q : ℤ
-  q = c.floor-div.result
+  q = c.floor_div-floor.result
 
   floor_fits : SFits w64 q
-  floor_fits = record { sfits = c.floor-div.type-inv }
+  floor_fits = record { sfits = c.floor_div-floor.type_inv }
 
   q_is : q ≡ floor_div z n
-  q_is = simp (reads, count_low c.before, c.before.ranges.z) at c.floor-div.ensures
+  q_is = simp (reads, count_low c.before, c.before.ranges.z) at c.floor_div-floor.ensures
 
   product-fits : SFits w64 (pos n *ℤ q)
   product-fits =
@@ -47,28 +46,22 @@ module _ (c : tie.After-floor-div) where
   rest_fits : SFits w64 (z -ℤ pos n *ℤ q)
   rest_fits = rw rest_eq (abs_fits w64 (pos (quotient z n).rest) (omega (arith, rest_high z c.before.requires.1)))
 
-cast-count : tie.Need-overflow-cast-count
-cast-count c = search rules
+pub floor_div-floor-requires : goal.floor_div-floor-requires
+floor_div-floor-requires c = simp (reads, count_low c) (simp linear (omega arith))
 
-floor-div-requires : tie.Need-floor-div-requires
-floor-div-requires c κs = simp (reads, count_low c) (simp linear (omega arith))
+pub overflow_mul-rest : goal.overflow_mul-rest
+overflow_mul-rest c = simp (reads, count_low c.before, floor_fits c) (product-fits c)
 
-mul-rest : tie.Need-overflow-mul-rest
-mul-rest c = simp (reads, count_low c.before, floor_fits c) (product-fits c)
+pub overflow_sub-rest : goal.overflow_sub-rest
+overflow_sub-rest c = simp (reads, count_low c.before, c.before.ranges.z, floor_fits c, product-fits c) (rest_fits c)
 
-sub-rest : tie.Need-overflow-sub-rest
-sub-rest c = simp (reads, count_low c.before, c.before.ranges.z, floor_fits c, product-fits c) (rest_fits c)
-
-cast-t7 : tie.Need-overflow-cast-t7
-cast-t7 c =
+pub overflow_cast-result : goal.overflow_cast-result
+overflow_cast-result c =
     simp (reads, count_low c.before, c.before.ranges.z, floor_fits c, product-fits c, rest_fits c)
     (rw (rest_eq c) (tt, omega (arith, rest_high (z c) c.before.requires.1)))
 
-returns : tie.Need-returns
+pub returns : goal.returns
 unfolding quotient
 returns c =
     simp (reads, count_low c.before, c.before.ranges.z, floor_fits c, product-fits c, rest_fits c)
     (ap (λ (x : ℤ). record { floor = x; rest = nat_abs (z c -ℤ pos (n c) *ℤ x) }) (q_is c))
-
-pub divided-spec : {M : Type 1} → statement M
-divided-spec = tie.close (tie.spec cast-count floor-div-requires mul-rest sub-rest cast-t7 returns)

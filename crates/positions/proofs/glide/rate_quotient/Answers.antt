@@ -1,5 +1,4 @@
 -- `positions::glide::rate_quotient` meets its contract: no number on the way is above 2^50. Assumes nothing.
-use borrow.Author.Rules.{rules}
 use Prim.Native.Nat.{◌^◌, ◌<◌}
 use native.Mathlib.Omega.{arith}
 use lib.IntN.{ℤ, pos, ◌+ℤ◌, ◌-ℤ◌, ◌*ℤ◌}
@@ -11,15 +10,15 @@ use Rattle.arith.proofs.Integers.{abs_fits}
 use Rattle.control.specs.declared.Glide.{Glide}
 use Rattle.positions.specs.Inner.{GlideFits, glide_sum}
 use Rattle.positions.proofs.Glides.{way_high, start_product, way_product, sum_high}
-use Rattle.positions.proofs.glide.rate_quotient.Statement.{statement}
-use Rattle.positions.proofs.glide.rate_quotient.Tie as tie
+use Rattle.positions.proofs.glide.rate_quotient.Goals as goal
+use Rattle.positions.proofs.glide.rate_quotient.Goals.{Start}
 
-module _ (e : tie.Start) where
+module _ (e : Start) where
   abbrev g : Glide
   g = e.args.g
 
   fits : GlideFits g
-  fits = e.pre
+  fits = e.requires
 
   -- R0, R1, c and j are the same numbers in an i64
   start_low : g.start < 2 ^ 63
@@ -50,54 +49,33 @@ module _ (e : tie.Start) where
   unfolding glide_sum
   sum_fits = abs_fits w64 (pos g.start *ℤ pos g.count +ℤ way *ℤ pos g.done) (omega (arith, sum_high g fits g.done (omega (arith, fits.done_high))))
 
-cast-start : tie.Need-overflow-cast-start
-cast-start c = let l = start_low c.before in simp linear (omega arith)
+pub overflow_cast-start : goal.overflow_cast-start
+overflow_cast-start c = let l = start_low c.before in simp linear (omega arith)
 
-cast-way : tie.Need-overflow-cast-way
-cast-way c = let l = target_low c.before.before in simp linear (omega arith)
+pub overflow_cast-way : goal.overflow_cast-way
+overflow_cast-way c = let l = target_low c.before.before in simp linear (omega arith)
 
-sub-way : tie.Need-overflow-sub-way
-sub-way c = let e = c.before.before in simp (reads, start_low e, target_low e) (way_fits e)
+pub overflow_sub-way : goal.overflow_sub-way
+overflow_sub-way c = let e = c.before.before in simp (reads, start_low e, target_low e) (way_fits e)
 
-cast-divided : tie.Need-overflow-cast-divided
-cast-divided c = search rules
+pub overflow_mul-start : goal.overflow_mul-start
+overflow_mul-start c = let e = c.before.before in simp (reads, start_low e, count_low e) (start_fits e)
 
-mul-divided : tie.Need-overflow-mul-divided
-mul-divided c = let e = c.before.before in simp (reads, start_low e, count_low e) (start_fits e)
+pub overflow_mul-way : goal.overflow_mul-way
+overflow_mul-way c = let e = c.before.before.before in simp (reads, start_low e, target_low e, done_low e, way_fits e) (done_fits e)
 
-cast-divided-2 : tie.Need-overflow-cast-divided-2
-cast-divided-2 c = search rules
+pub overflow_add-start : goal.overflow_add-start
+overflow_add-start c = let e = c.before.before.before in simp (reads, start_low e, target_low e, count_low e, done_low e, way_fits e, start_fits e, done_fits e) (sum_fits e)
 
-mul-divided-2 : tie.Need-overflow-mul-divided-2
-mul-divided-2 c = let e = c.before.before.before in simp (reads, start_low e, target_low e, done_low e, way_fits e) (done_fits e)
-
-add-divided : tie.Need-overflow-add-divided
-add-divided c = let e = c.before.before.before in simp (reads, start_low e, target_low e, count_low e, done_low e, way_fits e, start_fits e, done_fits e) (sum_fits e)
-
-divided-requires : tie.Need-divided-requires
+pub divided-requires : goal.divided-requires
 unfolding glide_sum
-divided-requires c κs =
+divided-requires c =
     let e = c.before.before.before in
     simp (reads, start_low e, target_low e, count_low e, done_low e, way_fits e, start_fits e, done_fits e, sum_fits e)
     (sum_high (g e) (fits e) (g e).done (omega (arith, (fits e).done_high)), omega (arith, (fits e).done_high), (fits e).count_high)
 
-returns : tie.Need-returns
+pub returns : goal.returns
 unfolding glide_sum
 returns c =
     let e = c.before.before.before.before in
     simp (reads, start_low e, target_low e, count_low e, done_low e, way_fits e, start_fits e, done_fits e, sum_fits e) at c.divided.ensures
-
-pub rate-quotient-spec : {M : Type 1} → statement M
-rate-quotient-spec =
-    tie.close
-    (tie.spec
-    cast-start
-    cast-way
-    sub-way
-    cast-divided
-    mul-divided
-    cast-divided-2
-    mul-divided-2
-    add-divided
-    divided-requires
-    returns)
