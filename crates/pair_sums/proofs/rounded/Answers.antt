@@ -68,11 +68,11 @@ module _ (s : Start) where
       let b = odd_small (floor_div (high +ℤ floor_div lower 8192) 2) in
       rw odd_is (simp linear (omega (arith, simp linear at b.0, simp linear at b.1)))
 
-  risen_small : nat_abs risen ≤ 2 ^ 30 + 8192
+  risen_small : nat_abs risen ≤ 2 ^ 30 + 8193
   risen_small = omega (arith, abs_triangle (lower +ℤ nearly_half) odd, abs_triangle lower (nearly_half), odd_is_small, s.requires.1)
 
-  risen_part_small : nat_abs (shr_z risen 8192) ≤ 2 ^ 17 + 1
-  risen_part_small = rw (shift-floor risen 8192) (floor_bound risen (omega arith) (2 ^ 17 + 1) (omega (arith, risen_small)))
+  risen_part_small : nat_abs (shr_z risen 8192) ≤ 2 ^ 17 + 2
+  risen_part_small = rw (shift-floor risen 8192) (floor_bound risen (omega arith) (2 ^ 17 + 2) (omega (arith, risen_small)))
 
   sum_small : nat_abs sum ≤ 2 ^ 30
   sum_small = omega (arith, abs_triangle high (shr_z risen 8192), high_small, risen_part_small)
@@ -116,13 +116,11 @@ module _ (s : Start) where
   result_fits : SFits w32 (shr_z sum 2)
   result_fits = abs_fits w32 (shr_z sum 2) (omega (arith, result_small))
 
-  result-is : shr_z sum 2 ≡ near (pos 65536 *ℤ s.args.upper +ℤ lower) 16384
-  result-is =
-      let e : pos 8192 *ℤ high +ℤ lower ≡ pos 65536 *ℤ s.args.upper +ℤ lower = simp linear (omega arith) in
-      shift-floor sum 2
-      ∙ ap (λ z. floor_div (high +ℤ z) 2) (shift-floor risen 8192 ∙ ap (λ o. floor_div (lower +ℤ nearly_half +ℤ o) 8192) odd_is)
-      ∙ near_parts high lower {u = 8192} {h = 1} (omega arith) (omega arith)
-      ∙ ap (λ z. near z 16384) e
+  sum_is : pos 8192 *ℤ high +ℤ lower ≡ pos 65536 *ℤ s.args.upper +ℤ lower
+  sum_is = simp linear (omega arith)
+
+  result-is : shr_z sum 2 ≡ floor_div (high +ℤ floor_div (lower +ℤ nearly_half +ℤ odd_of (floor_div (high +ℤ floor_div lower 8192) 2)) 8192) 2
+  result-is = shift-floor sum 2 ∙ ap (λ z. floor_div (high +ℤ z) 2) (shift-floor risen 8192 ∙ ap (λ o. floor_div (lower +ℤ nearly_half +ℤ o) 8192) odd_is)
 
 pub overflow_mul-high : goal.overflow_mul-high
 overflow_mul-high c = simp (reads, c.ranges.upper) (high_fits c)
@@ -150,4 +148,4 @@ overflow_add-result-3 c =
 pub returns : goal.returns
 returns c =
     simp (reads, c.ranges.upper, c.ranges.lower, high_fits c, part_fits c, whole_fits c, q_fits c, half_fits c, twice_fits c, odd_fits c, nearly_fits c, risen_fits c, risen_part_fits c, sum_fits c, result_fits c)
-    (result-is c)
+    (result-is c ∙ near_parts (high c) (lower c) {u = 8192} {h = 1} (omega arith) (omega arith) ∙ ap (λ z. near z 16384) (sum_is c))

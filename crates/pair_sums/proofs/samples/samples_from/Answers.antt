@@ -6,6 +6,7 @@ use native.Mathlib.Decide.{ℕ_discrete}
 use native.Mathlib.Omega.{arith}
 use borrow.Author.Tests.{eqb-true}
 use lib.Bits.{bit_or, or_lt}
+use Rattle.std.proofs.lemmas.Int.{ints}
 use lib.IntN.{ℤ, pos, ◌+ℤ◌}
 use mir.Syntax.{w32}
 use mir.Val.{SFits, of_z, to_z}
@@ -13,10 +14,10 @@ use mir.Facts.{Fits-of_z, of_z-to_z, to_z_pos}
 use Rattle.arith.specs.Lists.{at}
 use Rattle.arith.proofs.Bits.{reads}
 use Rattle.arith.proofs.Integers.{abs_triangle, abs_fits}
-use Rattle.arith.proofs.Linear.{lt_no, le_no}
+use Rattle.arith.proofs.Linear.{lt_no}
 use Rattle.pair_sums.proofs.SampleBits.{or_holds, or_holds_last, or_clear, or_clear_last, bits_low, sample_is}
 use Rattle.pair_sums.proofs.samples.samples_from.Goals as goal
-use Rattle.pair_sums.proofs.samples.samples_from.Goals.{At-loop-i, Else-bits-ge16777216, Start}
+use Rattle.pair_sums.proofs.samples.samples_from.Goals.{At-loop-i, Start}
 
 -- at each turn
 module _ (a : At-loop-i) where
@@ -64,12 +65,6 @@ module _ (a : At-loop-i) where
       clear k l z (yes e) = rw e (or_clear_last bits (of_z w32 (raised i)) z)
       clear k l z (no n) = clear_below k (omega arith) (or_clear bits (of_z w32 (raised i)) z)
 
--- the bits after both tests
-low : (c : Else-bits-ge16777216) → bits c.before.before.before < 16777216
-low c =
-    let a = c.before.before.before in
-    bits_low (bits a) a.loop-i.auto.bits (lt_no c.before.if-bits-lt0.false) (le_no c.if-bits-ge16777216.false)
-
 pub loop-i-init : goal.loop-i-init
 loop-i-init c = (omega arith, λ k l. absurd (omega arith), λ k l. absurd (omega arith))
 
@@ -83,13 +78,9 @@ loop-i-preserved c = let a = c.before.before in
     let f : SFits w32 (at (s a).args.level.now ((s a).args.from + a.loop-i.i)) = record { sfits = c.bits-1.given } in
     (omega arith, simp (reads, f, all_read a) (more a).0, simp (reads, f, all_read a) (more a).1)
 
-pub overflow_cast-result : goal.overflow_cast-result
-overflow_cast-result c = let l = low c in
-    let e : to_z w32 c.loop-i.bits-bits ≡ pos c.loop-i.bits-bits = to_z_pos w32 (omega arith) in
-    rw e (tt, omega arith)
-
 pub returns : goal.returns
 returns c r k l = let a = c.before.before.before in
-    let e : to_z w32 (bits a) ≡ pos (bits a) = to_z_pos w32 (omega (arith, low c)) in
+    let low : bits a < 16777216 = bits_low (bits a) a.loop-i.auto.bits (lt_no c.if-bits-lt0.false) (grind (arith, ints)) in
+    let e : to_z w32 (bits a) ≡ pos (bits a) = to_z_pos w32 (omega arith) in
     let clear : bits a % 256 ≡ 0 = eqb-true (bits a % 256) 0 (rw e at r) in
-    sample_is (at (s a).args.level.now ((s a).args.from + k)) (raised_fits a k) (omega (arith, below a k (omega arith), low c)) (clear_below a k (omega arith) clear)
+    sample_is (at (s a).args.level.now ((s a).args.from + k)) (raised_fits a k) (omega (arith, below a k (omega arith))) (clear_below a k (omega arith) clear)
