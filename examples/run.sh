@@ -13,35 +13,34 @@ readonly top=2 rate=1 hertz=48000
 
 fail() { printf 'run.sh: %s\n' "$*" >&2; exit 1; }
 
-# Shows a line for each crate that rt has proved.
+# Shows a line for each crate that rt has checked.
 show() {
     local line
     while IFS= read -r line; do
-        if [[ $line =~ ^rt:\ ([a-z_]+)\ proved\ \(([0-9]+\ s)\)$ ]]; then
-            printf '  %s, %s\n' "${BASH_REMATCH[1]}" "${BASH_REMATCH[2]}"
+        if [[ $line =~ ^crate\ ([a-z_]+): ]]; then
+            printf '  %s\n' "${BASH_REMATCH[1]}"
         fi
     done
 }
 
-# Runs rt, and shows all that it said only where it fails.
-prove() { # WORDS FOR RT
-    local log=target/log/run
-    mkdir -p target/log
-    rt "$@" 2>&1 | tee "$log" | show || {
+# Proves a static library and what it stands on, and writes its archive; shows all that rt said only where it fails.
+prove() { # ARCHIVE
+    local log=target/log/$1
+    mkdir -p target/log target/staticlib
+    (cd "crates/$1" && rt lib) 2>&1 | tee "$log" | show || {
         tail -n 40 "$log" | cut -c 1-300 >&2
-        fail "rt $* failed; $log has all that it said"
+        fail "rt lib failed in crates/$1; $log has all that it said"
     }
+    cp "crates/$1/out/lib$1.a" target/staticlib/
 }
 
 for tool in rt cargo; do
     command -v "$tool" >/dev/null || fail "$tool is not on the path"
 done
 
-echo 'Proving the level builder and the player: some minutes where nothing is proved yet, a line for each crate'
-prove check marshal tone_builder # all that the archives stand on
 for archive in "${archives[@]}"; do
-    echo "Writing lib$archive.a"
-    prove staticlib "$archive"
+    echo "Proving lib$archive.a and writing it: some minutes where nothing is proved yet, a line for each crate"
+    prove "$archive"
 done
 cargo build --release --manifest-path rust/Cargo.toml --target-dir rust/target -p tone -p hum
 
