@@ -1,8 +1,11 @@
 // The bench program: cases A, B, C, D and G of document 01, a line each.
 
 #![tactic(auto)]
+
 use control::{Card, Order};
 use player::Voice;
+use std::io;
+use std::io::{BufWriter, Write};
 
 const K: [i32; 11] = [2, 1, 0, 0, 1, 0, 16384, 16384, -16384, 16384, 16384];
 
@@ -11,13 +14,20 @@ const SLOW: [i32; 11] = [2, 1, 0, 0, 4, 0, 16384, 16384, -16384, 16384, 16384];
 const LOUD: [i32; 11] = [2, 1, 0, 0, 1, 0, 16384, 16384, -16384, 16384, 32767];
 
 // Prints a letter and the samples that a voice plays of a recording.
-fn case(letter: u8, book: &[i32], samples: &[i16], v: Voice, out: &mut [i16]) {
+fn case(
+    out: &mut impl Write,
+    letter: char,
+    book: &[i32],
+    samples: &[i16],
+    v: Voice,
+    block: &mut [i16],
+) -> io::Result<()> {
     let mut store = [0i32; 16];
     let c = v.control;
     levels::build(book, samples, c.top, &mut store);
-    v.play(book, &store, out);
-    io::write_all(1, &[letter]);
-    print::samples(out);
+    v.play(book, &store, block);
+    write!(out, "{letter}")?;
+    print::samples(out, block)
 }
 
 fn opened(rate: f32, top: u32) -> Voice {
@@ -25,33 +35,41 @@ fn opened(rate: f32, top: u32) -> Voice {
 }
 
 // A ramp at a rate.
-fn ramp(letter: u8, rate: f32, top: u32, out: &mut [i16]) {
+fn ramp(
+    out: &mut impl Write,
+    letter: char,
+    rate: f32,
+    top: u32,
+    block: &mut [i16],
+) -> io::Result<()> {
     let samples = [0i16, 1000, 2000];
-    case(letter, &K, &samples, opened(rate, top), out);
+    case(out, letter, &K, &samples, opened(rate, top), block)
 }
 
 // A wave after a jump from rate 1 to rate 2.
-fn jump(letter: u8, book: &[i32]) {
+fn jump(out: &mut impl Write, letter: char, book: &[i32]) -> io::Result<()> {
     let samples = [0i16, 1000, 0, 1000];
-    let mut out = [0i16; 2];
+    let mut block = [0i16; 2];
     let v = opened(1.0, 1).order(Order::Jump(2.0)).voice;
-    case(letter, book, &samples, v, &mut out);
+    case(out, letter, book, &samples, v, &mut block)
 }
 
 // A recording of one level, too loud.
-fn loud(x: i16) {
+fn loud(out: &mut impl Write, x: i16) -> io::Result<()> {
     let samples = [x; 3];
-    let mut out = [0i16; 1];
-    case(b'G', &LOUD, &samples, opened(1.0, 0), &mut out);
+    let mut block = [0i16; 1];
+    case(out, 'G', &LOUD, &samples, opened(1.0, 0), &mut block)
 }
 
-fn main() {
+fn main(rt: HostRuntime) -> io::Result<()> {
+    let mut out = BufWriter::new(rt.alloc(), io::writer(&rt))?;
     let mut four = [0i16; 4];
     let mut three = [0i16; 3];
-    ramp(b'A', 1.0, 0, &mut four);
-    ramp(b'B', 2.0, 1, &mut three);
-    jump(b'C', &SLOW);
-    jump(b'D', &K);
-    loud(32767);
-    loud(-32768);
+    ramp(&mut out, 'A', 1.0, 0, &mut four)?;
+    ramp(&mut out, 'B', 2.0, 1, &mut three)?;
+    jump(&mut out, 'C', &SLOW)?;
+    jump(&mut out, 'D', &K)?;
+    loud(&mut out, 32767)?;
+    loud(&mut out, -32768)?;
+    out.flush()
 }

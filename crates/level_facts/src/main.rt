@@ -3,6 +3,9 @@
 
 #![tactic(auto)]
 
+use std::io;
+use std::io::{BufWriter, Write};
+
 // Document 01's book K.
 const K: [i32; 11] = [2, 1, 0, 0, 1, 0, 16384, 16384, -16384, 16384, 16384];
 
@@ -16,71 +19,66 @@ fn changed(b: [i32; 11], i: usize, x: i32) -> [i32; 11] {
     b
 }
 
-fn unchanged() {
-    io::write_all(1, b"K");
-    print::next_number(book::check(&K));
-    print::end_line();
+fn unchanged(out: &mut impl Write) -> io::Result<()> {
+    writeln!(out, "K {}", book::check(&K))
 }
 
 // A name, a value x, and the check's number for a book with word i changed to x.
-fn edited(name: &[u8], b: [i32; 11], i: usize, x: i32) {
+fn edited(out: &mut impl Write, name: &str, b: [i32; 11], i: usize, x: i32) -> io::Result<()> {
     let c = changed(b, i, x);
-    io::write_all(1, name);
-    print::next_integer(x);
-    print::next_number(book::check(&c));
-    print::end_line();
+    writeln!(out, "{name} {x} {}", book::check(&c))
 }
 
-fn letter(name: u8, i: usize, x: i32) {
-    edited(&[name], K, i, x);
+fn letter(out: &mut impl Write, name: &str, i: usize, x: i32) -> io::Result<()> {
+    edited(out, name, K, i, x)
 }
 
-fn sizes() {
-    letter(b'N', 0, 1);
-    letter(b'N', 0, 3);
-    letter(b'N', 0, 26);
-    letter(b'N', 0, -2);
-    letter(b'M', 1, 0);
-    letter(b'M', 1, 3);
-    letter(b'M', 1, 256);
-    letter(b'A', 2, 41);
-    letter(b'B', 3, -1);
-    letter(b'F', 4, 0);
-    letter(b'F', 4, 256);
-    letter(b'F', 4, 257);
+fn sizes(out: &mut impl Write) -> io::Result<()> {
+    letter(out, "N", 0, 1)?;
+    letter(out, "N", 0, 3)?;
+    letter(out, "N", 0, 26)?;
+    letter(out, "N", 0, -2)?;
+    letter(out, "M", 1, 0)?;
+    letter(out, "M", 1, 3)?;
+    letter(out, "M", 1, 256)?;
+    letter(out, "A", 2, 41)?;
+    letter(out, "B", 3, -1)?;
+    letter(out, "F", 4, 0)?;
+    letter(out, "F", 4, 256)?;
+    letter(out, "F", 4, 257)
 }
 
 // Sizes of a longer book.
-fn lengths() {
-    letter(b'N', 0, 4);
-    letter(b'M', 1, 2);
-    letter(b'A', 2, 1);
+fn lengths(out: &mut impl Write) -> io::Result<()> {
+    letter(out, "N", 0, 4)?;
+    letter(out, "M", 1, 2)?;
+    letter(out, "A", 2, 1)
 }
 
-fn words() {
-    letter(b'G', 6, 32768);
-    letter(b'h', 9, -32769);
-    letter(b'g', 10, 32768);
-    letter(b'h', 9, 32767);
-    letter(b'h', 9, -32768);
+fn words(out: &mut impl Write) -> io::Result<()> {
+    letter(out, "G", 6, 32768)?;
+    letter(out, "h", 9, -32769)?;
+    letter(out, "g", 10, 32768)?;
+    letter(out, "h", 9, 32767)?;
+    letter(out, "h", 9, -32768)
 }
 
-fn difference(x: i32) {
-    edited(b"difference", K, 7, x);
+fn difference(out: &mut impl Write, x: i32) -> io::Result<()> {
+    edited(out, "difference", K, 7, x)
 }
 
-fn differences() {
-    edited(b"G_0[0]", K, 5, 1);
-    difference(0);
-    edited(b"last difference", K, 8, 0);
-    difference(40000);
+fn differences(out: &mut impl Write) -> io::Result<()> {
+    edited(out, "G_0[0]", K, 5, 1)?;
+    difference(out, 0)?;
+    edited(out, "last difference", K, 8, 0)?;
+    difference(out, 40000)
 }
 
 // Two conditions at once.
-fn pairs() {
-    edited(b"G_0[0] 1 and g", changed(K, 5, 1), 10, 32768);
-    edited(b"G_0[0] 1 and difference", changed(K, 5, 1), 7, 0);
-    edited(b"F 0 and G_0[0]", changed(K, 4, 0), 5, 1);
+fn pairs(out: &mut impl Write) -> io::Result<()> {
+    edited(out, "G_0[0] 1 and g", changed(K, 5, 1), 10, 32768)?;
+    edited(out, "G_0[0] 1 and difference", changed(K, 5, 1), 7, 0)?;
+    edited(out, "F 0 and G_0[0]", changed(K, 4, 0), 5, 1)
 }
 
 // The number of a book with the phase 0, 32767, 32767, x: its last two differences are d and e.
@@ -98,87 +96,101 @@ fn outer_taps(h: i32, g: i32) -> u32 {
 }
 
 // Sums of absolute values: a phase of 65536 and of 65538, and taps of 32768 and of 32770.
-fn sums() {
-    print::number(phase(2, -32765, -2));
-    print::next_number(phase(4, -32763, -4));
-    print::next_number(outer_taps(-8192, 8192));
-    print::next_number(outer_taps(-8193, 8192));
-    print::next_number(outer_taps(-8192, 8193));
-    print::end_line();
+fn sums(out: &mut impl Write) -> io::Result<()> {
+    print::number(out, phase(2, -32765, -2))?;
+    print::next_number(out, phase(4, -32763, -4))?;
+    print::next_number(out, outer_taps(-8192, 8192))?;
+    print::next_number(out, outer_taps(-8193, 8192))?;
+    print::next_number(out, outer_taps(-8192, 8193))?;
+    print::end_line(out)
 }
 
 // The first words of K.
-fn starts() {
+fn starts(out: &mut impl Write) -> io::Result<()> {
     let k = K;
-    print::number(book::check(&k[..4]));
-    print::next_number(book::check(&k[..0]));
-    print::next_number(book::check(&k[..5]));
-    print::next_number(book::check(&k[..10]));
-    print::end_line();
+    print::number(out, book::check(&k[..4]))?;
+    print::next_number(out, book::check(&k[..0]))?;
+    print::next_number(out, book::check(&k[..5]))?;
+    print::next_number(out, book::check(&k[..10]))?;
+    print::end_line(out)
 }
 
 // Builds into the first `room` words of a store, and prints the number.
-fn build_in(book: &[i32], samples: &[i16], top: u32, store: &mut [i32], room: usize) {
+fn build_in(
+    out: &mut impl Write,
+    book: &[i32],
+    samples: &[i16],
+    top: u32,
+    store: &mut [i32],
+    room: usize,
+) -> io::Result<()> {
     if room <= store.len() {
-        print::number(levels::build(book, samples, top, &mut store[..room]));
+        print::number(out, levels::build(book, samples, top, &mut store[..room]))?;
     }
+    Ok(())
 }
 
 // The same with a store of nines, and every word of it afterwards.
-fn built(book: &[i32], samples: &[i16], top: u32, room: usize) {
+fn built(
+    out: &mut impl Write,
+    book: &[i32],
+    samples: &[i16],
+    top: u32,
+    room: usize,
+) -> io::Result<()> {
     let mut store = [9i32; 16];
-    build_in(book, samples, top, &mut store, room);
-    print::integers(&store);
+    build_in(out, book, samples, top, &mut store, room)?;
+    print::integers(out, &store)
 }
 
 // A store of a ramp.
-fn ramp(top: u32, room: usize) {
+fn ramp(out: &mut impl Write, top: u32, room: usize) -> io::Result<()> {
     let samples = [0i16, 1000, 2000];
-    built(&K, &samples, top, room);
+    built(out, &K, &samples, top, room)
 }
 
 // A store of no samples, with K and with four words of it.
-fn no_samples() {
+fn no_samples(out: &mut impl Write) -> io::Result<()> {
     let samples = [0i16; 1];
     let k = K;
-    built(&k, &samples[..0], 1, 16);
-    built(&k[..4], &samples[..0], 5, 0);
+    built(out, &k, &samples[..0], 1, 16)?;
+    built(out, &k[..4], &samples[..0], 5, 0)
 }
 
-fn smooth() {
+fn smooth(out: &mut impl Write) -> io::Result<()> {
     let samples = [-3i16, 5, -7, 9, -32768];
     let book = [2, 1, 1, 0, 1, 0, 16384, 16384, -16384, 8192, 4096, 16384];
-    built(&book, &samples, 1, 16);
+    built(out, &book, &samples, 1, 16)
 }
 
-fn faint() {
+fn faint(out: &mut impl Write) -> io::Result<()> {
     let samples = [-32i16, 1, -33, 1, -96];
     let book = [2, 1, 0, 0, 1, 0, 16384, 16384, -16384, 1, 16384];
-    built(&book, &samples, 1, 16);
+    built(out, &book, &samples, 1, 16)
 }
 
-fn checks() {
-    unchanged();
-    sizes();
-    lengths();
-    words();
-    differences();
-    pairs();
-    sums();
-    starts();
+fn checks(out: &mut impl Write) -> io::Result<()> {
+    unchanged(out)?;
+    sizes(out)?;
+    lengths(out)?;
+    words(out)?;
+    differences(out)?;
+    pairs(out)?;
+    sums(out)?;
+    starts(out)
 }
 
-fn stores() {
-    ramp(0, 16);
-    ramp(1, 16);
-    ramp(1, 9);
-    ramp(1, 8);
-    ramp(4, 16);
-    ramp(5, 16);
-    no_samples();
-    ramp(5, 0);
-    smooth();
-    faint();
+fn stores(out: &mut impl Write) -> io::Result<()> {
+    ramp(out, 0, 16)?;
+    ramp(out, 1, 16)?;
+    ramp(out, 1, 9)?;
+    ramp(out, 1, 8)?;
+    ramp(out, 4, 16)?;
+    ramp(out, 5, 16)?;
+    no_samples(out)?;
+    ramp(out, 5, 0)?;
+    smooth(out)?;
+    faint(out)
 }
 
 // A ramp's store of 9 words with word i changed to x: S 3, T 1 and the lengths 3 and 2 stand first.
@@ -194,58 +206,57 @@ fn store_with(i: usize, x: i32) -> [i32; 9] {
 }
 
 // A name, a value x, and the check's number for such a store.
-fn header(name: &[u8], i: usize, x: i32) {
+fn header(out: &mut impl Write, name: &str, i: usize, x: i32) -> io::Result<()> {
     let store = store_with(i, x);
-    io::write_all(1, name);
-    print::next_integer(x);
-    print::next_number(store::check(&store));
-    print::end_line();
+    writeln!(out, "{name} {x} {}", store::check(&store))
 }
 
 // S and T out of range; in range, but of a longer store; of a shorter one.
-fn named() {
-    header(b"S", 0, 3);
-    header(b"S", 0, 0);
-    header(b"S", 0, -3);
-    header(b"S", 0, 1048577);
-    header(b"S", 0, 1048576);
-    header(b"S", 0, 4);
-    header(b"S", 0, 2);
-    header(b"T", 1, -1);
-    header(b"T", 1, 5);
-    header(b"T", 1, 4);
-    header(b"T", 1, 2);
-    header(b"T", 1, 0);
+fn named(out: &mut impl Write) -> io::Result<()> {
+    header(out, "S", 0, 3)?;
+    header(out, "S", 0, 0)?;
+    header(out, "S", 0, -3)?;
+    header(out, "S", 0, 1048577)?;
+    header(out, "S", 0, 1048576)?;
+    header(out, "S", 0, 4)?;
+    header(out, "S", 0, 2)?;
+    header(out, "T", 1, -1)?;
+    header(out, "T", 1, 5)?;
+    header(out, "T", 1, 4)?;
+    header(out, "T", 1, 2)?;
+    header(out, "T", 1, 0)
 }
 
 // Written lengths, and a word of a level.
-fn written() {
-    header(b"length 0", 2, 2);
-    header(b"length 0", 2, 4);
-    header(b"length 1", 3, 1);
-    header(b"length 1", 3, -2);
-    header(b"word", 4, -2147483648);
+fn written(out: &mut impl Write) -> io::Result<()> {
+    header(out, "length 0", 2, 2)?;
+    header(out, "length 0", 2, 4)?;
+    header(out, "length 1", 3, 1)?;
+    header(out, "length 1", 3, -2)?;
+    header(out, "word", 4, -2147483648)
 }
 
 // The first words of such a store.
-fn cut() {
+fn cut(out: &mut impl Write) -> io::Result<()> {
     let words = [3, 1, 3, 2, 0, 256000, 512000, 0, 512000];
-    print::number(store::check(&words[..0]));
-    print::next_number(store::check(&words[..1]));
-    print::next_number(store::check(&words[..2]));
-    print::next_number(store::check(&words[..8]));
-    print::next_number(store::check(&words));
-    print::end_line();
+    print::number(out, store::check(&words[..0]))?;
+    print::next_number(out, store::check(&words[..1]))?;
+    print::next_number(out, store::check(&words[..2]))?;
+    print::next_number(out, store::check(&words[..8]))?;
+    print::next_number(out, store::check(&words))?;
+    print::end_line(out)
 }
 
-fn headers() {
-    named();
-    written();
-    cut();
+fn headers(out: &mut impl Write) -> io::Result<()> {
+    named(out)?;
+    written(out)?;
+    cut(out)
 }
 
-fn main() {
-    checks();
-    stores();
-    headers();
+fn main(rt: HostRuntime) -> io::Result<()> {
+    let mut out = BufWriter::new(rt.alloc(), io::writer(&rt))?;
+    checks(&mut out)?;
+    stores(&mut out)?;
+    headers(&mut out)?;
+    out.flush()
 }

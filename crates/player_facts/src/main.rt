@@ -3,8 +3,11 @@
 // called, the number, whether the voice came back as it was, and of a play its multiply count.
 
 #![tactic(auto)]
+
 use control::{Card, Order};
 use player::{Answer, Voice};
+use std::io;
+use std::io::{BufWriter, Write};
 
 mod damage; // voices with a field changed
 
@@ -36,51 +39,53 @@ const FAR: u64 = 1152921504606846977;
 const LOUD: u64 = 536870913;
 
 // A number, and whether the voice came back as it was.
-fn number(label: &[u8], given: Voice, number: u32, v: Voice) {
-    io::write_all(1, label);
-    print::next_number(number);
-    if damage::same(given, v) {
-        io::write_all(1, b" kept");
+fn number(
+    out: &mut impl Write,
+    label: &str,
+    given: Voice,
+    number: u32,
+    v: Voice,
+) -> io::Result<()> {
+    let after = if damage::same(given, v) {
+        "kept"
     } else {
-        io::write_all(1, b" moved");
-    }
+        "moved"
+    };
+    write!(out, "{label} {number} {after}")
 }
 
-fn line(label: &[u8], given: Voice, a: Answer) {
+fn line(out: &mut impl Write, label: &str, given: Voice, a: Answer) -> io::Result<()> {
     let v = a.voice;
-    number(label, given, a.number, v);
-    print::end_line();
+    number(out, label, given, a.number, v)?;
+    print::end_line(out)
 }
 
-fn opening(label: &[u8], rate: f32, top: u32) {
+fn opening(out: &mut impl Write, label: &str, rate: f32, top: u32) -> io::Result<()> {
     let a = Voice::open(Card { rate, top });
     let v = a.voice;
     let c = v.control;
-    io::write_all(1, label);
-    print::next_number(a.number);
-    print::next_decimal(c.rate);
-    print::end_line();
+    writeln!(out, "{label} {} {}", a.number, c.rate)
 }
 
 // Rates at the limits.
-fn limits() {
-    opening(b"open 1/16", 0.0625, 0);
-    opening(b"open below 1/16", 0.062499996, 0);
-    opening(b"open 2 T 0", 2.0, 0);
-    opening(b"open 2 T 1", 2.0, 1);
-    opening(b"open 31.999998 T 4", 31.999998, 4);
-    opening(b"open 32 T 4", 32.0, 4);
+fn limits(out: &mut impl Write) -> io::Result<()> {
+    opening(out, "open 1/16", 0.0625, 0)?;
+    opening(out, "open below 1/16", 0.062499996, 0)?;
+    opening(out, "open 2 T 0", 2.0, 0)?;
+    opening(out, "open 2 T 1", 2.0, 1)?;
+    opening(out, "open 31.999998 T 4", 31.999998, 4)?;
+    opening(out, "open 32 T 4", 32.0, 4)
 }
 
 // Rates that no voice has, and a top level that none has.
-fn no_rates() {
+fn no_rates(out: &mut impl Write) -> io::Result<()> {
     let zero = 0.0f32;
-    opening(b"open NaN", zero / zero, 4);
-    opening(b"open infinity", 1.0 / zero, 4);
-    opening(b"open -1", -1.0, 4);
-    opening(b"open -0", -0.0, 4);
-    opening(b"open T 5", 1.0, 5);
-    opening(b"open NaN T 5", zero / zero, 5);
+    opening(out, "open NaN", zero / zero, 4)?;
+    opening(out, "open infinity", 1.0 / zero, 4)?;
+    opening(out, "open -1", -1.0, 4)?;
+    opening(out, "open -0", -0.0, 4)?;
+    opening(out, "open T 5", 1.0, 5)?;
+    opening(out, "open NaN T 5", zero / zero, 5)
 }
 
 // A voice at rate 1 with top level 1.
@@ -94,55 +99,64 @@ fn gliding(target: f32, count: u32) -> Voice {
 }
 
 // One output more, with its rate.
-fn one_output(v: Voice) -> Voice {
-    let mut out = [0i16; 1];
-    let w = v.play(&K, &SILENT, &mut out).voice;
+fn one_output(out: &mut impl Write, v: Voice) -> io::Result<Voice> {
+    let mut block = [0i16; 1];
+    let w = v.play(&K, &SILENT, &mut block).voice;
     let c = w.control;
-    print::next_decimal(c.rate);
-    w
+    print::next_decimal(out, c.rate)?;
+    Ok(w)
 }
 
 // The rates of the outputs of a glide from 1 to 2 over 4 and of one after it, and the count of the glide that is left.
-fn glide() {
-    io::write_all(1, b"glide");
-    let v = gliding(2.0, 4);
-    let w = one_output(one_output(one_output(one_output(one_output(v)))));
-    let c = w.control;
+fn glide(out: &mut impl Write) -> io::Result<()> {
+    write!(out, "glide")?;
+    let mut v = gliding(2.0, 4);
+    for _ in 0..5 {
+        v = one_output(out, v)?;
+    }
+    let c = v.control;
     let g = c.glide;
-    print::next_number(g.count);
-    print::end_line();
+    print::next_number(out, g.count)?;
+    print::end_line(out)
 }
 
 // The rate of a voice, and its current level: in a fade the old one.
-fn rate_and_level(v: Voice) {
+fn rate_and_level(out: &mut impl Write, v: Voice) -> io::Result<()> {
     let c = v.control;
     let f = c.fade;
-    print::next_decimal(c.rate);
-    print::next_number(f.from);
+    write!(out, " {} {}", c.rate, f.from)
 }
 
 // One output more, with its rate and the level after it.
-fn level_after(v: Voice, book: &[i32]) -> Voice {
-    let mut out = [0i16; 1];
-    let w = v.play(book, &SILENT_4, &mut out).voice;
-    rate_and_level(w);
-    w
+fn level_after(out: &mut impl Write, v: Voice, book: &[i32]) -> io::Result<Voice> {
+    let mut block = [0i16; 1];
+    let w = v.play(book, &SILENT_4, &mut block).voice;
+    rate_and_level(out, w)?;
+    Ok(w)
 }
 
-fn four_levels(v: Voice, book: &[i32]) -> Voice {
-    level_after(
-        level_after(level_after(level_after(v, book), book), book),
-        book,
-    )
+fn four_levels(out: &mut impl Write, v: Voice, book: &[i32]) -> io::Result<Voice> {
+    let mut w = v;
+    for _ in 0..4 {
+        w = level_after(out, w, book)?;
+    }
+    Ok(w)
 }
 
 // A glide of 8 outputs to a rate.
-fn glide_levels(label: &[u8], v: Voice, target: f32, book: &[i32]) -> Voice {
-    io::write_all(1, label);
+fn glide_levels(
+    out: &mut impl Write,
+    label: &str,
+    v: Voice,
+    target: f32,
+    book: &[i32],
+) -> io::Result<Voice> {
+    write!(out, "{label}")?;
     let g = v.order(Order::Glide { target, count: 8 }).voice;
-    let w = four_levels(four_levels(g, book), book);
-    print::end_line();
-    w
+    let half = four_levels(out, g, book)?;
+    let w = four_levels(out, half, book)?;
+    print::end_line(out)?;
+    Ok(w)
 }
 
 // A voice with top level 4.
@@ -151,215 +165,247 @@ fn high(rate: f32) -> Voice {
 }
 
 // From 2 down past 1.875 to 1.75 and up again, with a fade of one point and of four.
-fn glides_past_the_band() {
-    let low = glide_levels(b"down", high(2.0), 1.75, &K);
-    glide_levels(b"up", low, 2.0, &K);
-    let slow = glide_levels(b"down, F 4", high(2.0), 1.75, &SLOW);
-    glide_levels(b"up, F 4", slow, 2.0, &SLOW);
+fn glides_past_the_band(out: &mut impl Write) -> io::Result<()> {
+    let low = glide_levels(out, "down", high(2.0), 1.75, &K)?;
+    glide_levels(out, "up", low, 2.0, &K)?;
+    let slow = glide_levels(out, "down, F 4", high(2.0), 1.75, &SLOW)?;
+    glide_levels(out, "up, F 4", slow, 2.0, &SLOW)?;
+    Ok(())
 }
 
 // One output after a jump.
-fn level_at(v: Voice, rate: f32) -> Voice {
-    level_after(v.order(Order::Jump(rate)).voice, &K)
+fn level_at(out: &mut impl Write, v: Voice, rate: f32) -> io::Result<Voice> {
+    level_after(out, v.order(Order::Jump(rate)).voice, &K)
 }
 
 // A level's band: opened at its end, and from the level itself to that end, just below it and back, and to the lowest rate.
-fn band(label: &[u8], octave: f32, end: f32, below: f32) {
+fn band(out: &mut impl Write, label: &str, octave: f32, end: f32, below: f32) -> io::Result<()> {
     let v = high(octave);
-    io::write_all(1, label);
-    rate_and_level(high(end));
-    rate_and_level(v);
-    level_at(level_at(level_at(v, end), below), end);
-    level_at(v, 0.0625);
-    print::end_line();
+    write!(out, "{label}")?;
+    rate_and_level(out, high(end))?;
+    rate_and_level(out, v)?;
+    let w = level_at(out, v, end)?;
+    let w = level_at(out, w, below)?;
+    level_at(out, w, end)?;
+    level_at(out, v, 0.0625)?;
+    print::end_line(out)
 }
 
 // The bands of levels 1 to 4: down to 15/16 of the octave.
-fn bands() {
-    band(b"band of 1", 2.0, 1.875, 1.8749999);
-    band(b"band of 2", 4.0, 3.75, 3.7499998);
-    band(b"band of 3", 8.0, 7.5, 7.4999995);
-    band(b"band of 4", 16.0, 15.0, 14.999999);
+fn bands(out: &mut impl Write) -> io::Result<()> {
+    band(out, "band of 1", 2.0, 1.875, 1.8749999)?;
+    band(out, "band of 2", 4.0, 3.75, 3.7499998)?;
+    band(out, "band of 3", 8.0, 7.5, 7.4999995)?;
+    band(out, "band of 4", 16.0, 15.0, 14.999999)
 }
 
 // One output more, with its multiply count.
-fn count_after(v: Voice, book: &[i32]) -> Voice {
-    let mut out = [0i16; 1];
-    let a = v.play(book, &SILENT, &mut out);
-    print::next_decimal(a.multiplies);
-    a.voice
+fn count_after(out: &mut impl Write, v: Voice, book: &[i32]) -> io::Result<Voice> {
+    let mut block = [0i16; 1];
+    let a = v.play(book, &SILENT, &mut block);
+    print::next_decimal(out, a.multiplies)?;
+    Ok(a.voice)
 }
 
-fn two_counts(v: Voice, book: &[i32]) -> Voice {
-    count_after(count_after(v, book), book)
+fn two_counts(out: &mut impl Write, v: Voice, book: &[i32]) -> io::Result<Voice> {
+    let w = count_after(out, v, book)?;
+    count_after(out, w, book)
 }
 
 // Two outputs, and four more after a jump across the octave; then these four in one play.
-fn counts(label: &[u8], book: &[i32]) {
-    let mut out = [0i16; 4];
-    io::write_all(1, label);
-    let v = two_counts(fresh(), book).order(Order::Jump(2.0)).voice;
-    two_counts(two_counts(v, book), book);
-    print::next_decimal(v.play(book, &SILENT, &mut out).multiplies);
-    print::end_line();
+fn counts(out: &mut impl Write, label: &str, book: &[i32]) -> io::Result<()> {
+    let mut block = [0i16; 4];
+    write!(out, "{label}")?;
+    let v = two_counts(out, fresh(), book)?
+        .order(Order::Jump(2.0))
+        .voice;
+    let w = two_counts(out, v, book)?;
+    two_counts(out, w, book)?;
+    print::next_decimal(out, v.play(book, &SILENT, &mut block).multiplies)?;
+    print::end_line(out)
 }
 
 // Fades that end inside an output and with it.
-fn all_counts() {
-    counts(b"multiplies, F 1", &K);
-    counts(b"multiplies, F 3", &ODD);
-    counts(b"multiplies, F 4", &SLOW);
-    counts(b"multiplies, N 12, B 3", &TWELVE);
+fn all_counts(out: &mut impl Write) -> io::Result<()> {
+    counts(out, "multiplies, F 1", &K)?;
+    counts(out, "multiplies, F 3", &ODD)?;
+    counts(out, "multiplies, F 4", &SLOW)?;
+    counts(out, "multiplies, N 12, B 3", &TWELVE)
 }
 
-fn jumped(label: &[u8], v: Voice, rate: f32) {
-    line(label, v, v.order(Order::Jump(rate)));
+fn jumped(out: &mut impl Write, label: &str, v: Voice, rate: f32) -> io::Result<()> {
+    line(out, label, v, v.order(Order::Jump(rate)))
 }
 
-fn glided(label: &[u8], v: Voice, target: f32, count: u32) {
-    line(label, v, v.order(Order::Glide { target, count }));
+fn glided(out: &mut impl Write, label: &str, v: Voice, target: f32, count: u32) -> io::Result<()> {
+    line(out, label, v, v.order(Order::Glide { target, count }))
 }
 
-fn sought(label: &[u8], v: Voice, position: u64) {
-    line(label, v, v.seek(position));
+fn sought(out: &mut impl Write, label: &str, v: Voice, position: u64) -> io::Result<()> {
+    line(out, label, v, v.seek(position))
 }
 
-fn played(label: &[u8], v: Voice, book: &[i32], store: &[i32], out: &mut [i16]) {
-    let a = v.play(book, store, out);
+fn played(
+    out: &mut impl Write,
+    label: &str,
+    v: Voice,
+    book: &[i32],
+    store: &[i32],
+    block: &mut [i16],
+) -> io::Result<()> {
+    let a = v.play(book, store, block);
     let w = a.voice;
-    number(label, v, a.number, w);
-    print::next_decimal(a.multiplies);
-    print::end_line();
+    number(out, label, v, a.number, w)?;
+    print::next_decimal(out, a.multiplies)?;
+    print::end_line(out)
 }
 
-fn orders() {
+fn orders(out: &mut impl Write) -> io::Result<()> {
     let v = fresh();
-    jumped(b"jump 2", v, 2.0);
-    jumped(b"jump 4", v, 4.0);
-    glided(b"glide c 0", v, 2.0, 0);
-    glided(b"glide c 65536", v, 2.0, 65536);
-    glided(b"glide c 65537", v, 2.0, 65537);
-    glided(b"glide 4 c 0", v, 4.0, 0);
+    jumped(out, "jump 2", v, 2.0)?;
+    jumped(out, "jump 4", v, 4.0)?;
+    glided(out, "glide c 0", v, 2.0, 0)?;
+    glided(out, "glide c 65536", v, 2.0, 65536)?;
+    glided(out, "glide c 65537", v, 2.0, 65537)?;
+    glided(out, "glide 4 c 0", v, 4.0, 0)?;
     glided(
-        b"glide 4, P",
+        out,
+        "glide 4, P",
         damage::with(v, damage::POSITION, FAR),
         4.0,
         0,
-    );
-    jumped(b"jump 2, i", damage::with(v, damage::STEP, 7), 2.0);
+    )?;
+    jumped(out, "jump 2, i", damage::with(v, damage::STEP, 7), 2.0)
 }
 
-fn seeks() {
+fn seeks(out: &mut impl Write) -> io::Result<()> {
     let v = fresh();
-    sought(b"seek 2^60", v, FAR - 1);
-    sought(b"seek 2^60 + 1", v, FAR);
+    sought(out, "seek 2^60", v, FAR - 1)?;
+    sought(out, "seek 2^60 + 1", v, FAR)?;
     let loud = damage::with(v, damage::POINT, LOUD);
-    sought(b"seek 2^60 + 1, point", loud, FAR);
+    sought(out, "seek 2^60 + 1, point", loud, FAR)
 }
 
 // Each state, in an order, a seek and a play.
-fn state(label: &[u8], v: Voice) {
-    let mut out = [7i16; 2];
-    jumped(label, v, 1.5);
-    sought(label, v, 5);
-    played(label, v, &SLOW, &SILENT, &mut out);
+fn state(out: &mut impl Write, label: &str, v: Voice) -> io::Result<()> {
+    let mut block = [7i16; 2];
+    jumped(out, label, v, 1.5)?;
+    sought(out, label, v, 5)?;
+    played(out, label, v, &SLOW, &SILENT, &mut block)
 }
 
 // A fresh voice with a field changed.
-fn damaged(label: &[u8], field: u32, x: u64) {
-    state(label, damage::with(fresh(), field, x));
+fn damaged(out: &mut impl Write, label: &str, field: u32, x: u64) -> io::Result<()> {
+    state(out, label, damage::with(fresh(), field, x))
 }
 
 // A fresh voice with two fields changed.
-fn damaged_twice(label: &[u8], field: u32, x: u64, other: u32, y: u64) {
+fn damaged_twice(
+    out: &mut impl Write,
+    label: &str,
+    field: u32,
+    x: u64,
+    other: u32,
+    y: u64,
+) -> io::Result<()> {
     let v = damage::with(fresh(), field, x);
-    state(label, damage::with(v, other, y));
+    state(out, label, damage::with(v, other, y))
 }
 
 // A voice in a glide with a field changed.
-fn damaged_glide(label: &[u8], field: u32, x: u64) {
-    state(label, damage::with(gliding(1.5, 9), field, x));
+fn damaged_glide(out: &mut impl Write, label: &str, field: u32, x: u64) -> io::Result<()> {
+    state(out, label, damage::with(gliding(1.5, 9), field, x))
 }
 
-fn fades() {
-    damaged(b"T 5", damage::TOP, 5);
-    damaged(b"from 2", damage::FROM, 2);
-    damaged(b"to 2", damage::TO, 2);
-    damaged(b"unequal at rest", damage::TO, 1);
-    damaged(b"equal in a fade", damage::STEP, 1);
-    damaged_twice(b"i 4", damage::STEP, 4, damage::TO, 1);
-    damaged_twice(b"i 3", damage::STEP, 3, damage::TO, 1);
+fn fades(out: &mut impl Write) -> io::Result<()> {
+    damaged(out, "T 5", damage::TOP, 5)?;
+    damaged(out, "from 2", damage::FROM, 2)?;
+    damaged(out, "to 2", damage::TO, 2)?;
+    damaged(out, "unequal at rest", damage::TO, 1)?;
+    damaged(out, "equal in a fade", damage::STEP, 1)?;
+    damaged_twice(out, "i 4", damage::STEP, 4, damage::TO, 1)?;
+    damaged_twice(out, "i 3", damage::STEP, 3, damage::TO, 1)
 }
 
-fn rates() {
-    damaged(b"R low", damage::RATE, 8388607);
-    damaged(b"R high", damage::RATE, 536870912);
-    damaged(b"R0 at rest", damage::START, 1);
-    damaged_glide(b"R0 low", damage::START, 8388607);
-    damaged_glide(b"R1 high", damage::TARGET, 536870912);
-    damaged_glide(b"c 65537", damage::COUNT, 65537);
-    damaged_glide(b"j 9", damage::DONE, 9);
-    damaged_glide(b"j 8", damage::DONE, 8);
+fn rates(out: &mut impl Write) -> io::Result<()> {
+    damaged(out, "R low", damage::RATE, 8388607)?;
+    damaged(out, "R high", damage::RATE, 536870912)?;
+    damaged(out, "R0 at rest", damage::START, 1)?;
+    damaged_glide(out, "R0 low", damage::START, 8388607)?;
+    damaged_glide(out, "R1 high", damage::TARGET, 536870912)?;
+    damaged_glide(out, "c 65537", damage::COUNT, 65537)?;
+    damaged_glide(out, "j 9", damage::DONE, 9)?;
+    damaged_glide(out, "j 8", damage::DONE, 8)
 }
 
-fn places() {
-    damaged(b"P high", damage::POSITION, FAR);
-    damaged(b"point high", damage::POINT, LOUD);
-    damaged(b"point 2^29", damage::POINT, LOUD - 1);
+fn places(out: &mut impl Write) -> io::Result<()> {
+    damaged(out, "P high", damage::POSITION, FAR)?;
+    damaged(out, "point high", damage::POINT, LOUD)?;
+    damaged(out, "point 2^29", damage::POINT, LOUD - 1)
 }
 
 // Two conditions at once.
-fn pairs() {
-    damaged(b"13 and 14", damage::TO, 2);
-    damaged_twice(b"13 and 15", damage::TO, 2, damage::RATE, 1);
-    damaged_twice(b"14 and 15", damage::TO, 1, damage::RATE, 1);
-    damaged_twice(b"15 and 16", damage::RATE, 1, damage::POSITION, FAR);
-    damaged_twice(b"16 and 17", damage::POSITION, FAR, damage::POINT, LOUD);
+fn pairs(out: &mut impl Write) -> io::Result<()> {
+    damaged(out, "13 and 14", damage::TO, 2)?;
+    damaged_twice(out, "13 and 15", damage::TO, 2, damage::RATE, 1)?;
+    damaged_twice(out, "14 and 15", damage::TO, 1, damage::RATE, 1)?;
+    damaged_twice(out, "15 and 16", damage::RATE, 1, damage::POSITION, FAR)?;
+    damaged_twice(out, "16 and 17", damage::POSITION, FAR, damage::POINT, LOUD)
 }
 
 // A play of two outputs, and what they are afterwards.
-fn lent(label: &[u8], v: Voice, book: &[i32], store: &[i32]) {
-    let mut out = [7i16; 2];
-    played(label, v, book, store, &mut out);
-    print::samples(&out);
+fn lent(
+    out: &mut impl Write,
+    label: &str,
+    v: Voice,
+    book: &[i32],
+    store: &[i32],
+) -> io::Result<()> {
+    let mut block = [7i16; 2];
+    played(out, label, v, book, store, &mut block)?;
+    print::samples(out, &block)
 }
 
-fn lent_book(label: &[u8], book: &[i32]) {
-    lent(label, fresh(), book, &SILENT);
+fn lent_book(out: &mut impl Write, label: &str, book: &[i32]) -> io::Result<()> {
+    lent(out, label, fresh(), book, &SILENT)
 }
 
 // Books of a wrong length, or with sizes or words out of range.
-fn sizes() {
-    lent_book(b"play 1", &K[..4]);
+fn sizes(out: &mut impl Write) -> io::Result<()> {
+    lent_book(out, "play 1", &K[..4])?;
     lent_book(
-        b"play 2",
+        out,
+        "play 2",
         &[3, 1, 0, 0, 1, 0, 16384, 16384, -16384, 16384, 16384],
-    );
-    lent_book(b"play 3", &K[..10]);
+    )?;
+    lent_book(out, "play 3", &K[..10])?;
     lent_book(
-        b"play 4",
+        out,
+        "play 4",
         &[2, 1, 0, 0, 1, 0, 16384, 16384, -16384, 40000, 16384],
-    );
+    )
 }
 
 // Books with a wrong first word, difference or sum.
-fn words() {
+fn words(out: &mut impl Write) -> io::Result<()> {
     let heavy = [
         4, 1, 0, 0, 1, 0, 32767, 32767, 4, 32767, 0, -32763, -4, 16384, 16384,
     ];
     lent_book(
-        b"play 5",
+        out,
+        "play 5",
         &[2, 1, 0, 0, 1, 1, 16384, 16383, -16384, 16384, 16384],
-    );
+    )?;
     lent_book(
-        b"play 6",
+        out,
+        "play 6",
         &[2, 1, 0, 0, 1, 0, 16384, 16384, 16384, 16384, 16384],
-    );
-    lent_book(b"play 7", &heavy);
+    )?;
+    lent_book(out, "play 7", &heavy)
 }
 
-fn lent_store(label: &[u8], store: &[i32]) {
-    lent(label, fresh(), &K, store);
+fn lent_store(out: &mut impl Write, label: &str, store: &[i32]) -> io::Result<()> {
+    lent(out, label, fresh(), &K, store)
 }
 
 // The silent store with word i of its header changed to x.
@@ -372,78 +418,93 @@ fn header_with(i: usize, x: i32) -> [i32; 9] {
     store
 }
 
-fn lent_header(label: &[u8], i: usize, x: i32) {
+fn lent_header(out: &mut impl Write, label: &str, i: usize, x: i32) -> io::Result<()> {
     let store = header_with(i, x);
-    lent_store(label, &store);
+    lent_store(out, label, &store)
 }
 
 // Stores that are cut short, or name an S or a T out of range.
-fn stores() {
-    lent_store(b"play no words", &SILENT[..0]);
-    lent_store(b"play one word", &SILENT[..1]);
-    lent_store(b"play two words", &SILENT[..2]);
-    lent_store(b"play 9", &SILENT[..8]);
-    lent_header(b"play S 0", 0, 0);
-    lent_header(b"play S -3", 0, -3);
-    lent_header(b"play S 1048577", 0, 1048577);
-    lent_header(b"play S 4", 0, 4);
-    lent_header(b"play T -1", 1, -1);
-    lent_header(b"play T 5", 1, 5);
-    lent_header(b"play T 2", 1, 2);
+fn stores(out: &mut impl Write) -> io::Result<()> {
+    lent_store(out, "play no words", &SILENT[..0])?;
+    lent_store(out, "play one word", &SILENT[..1])?;
+    lent_store(out, "play two words", &SILENT[..2])?;
+    lent_store(out, "play 9", &SILENT[..8])?;
+    lent_header(out, "play S 0", 0, 0)?;
+    lent_header(out, "play S -3", 0, -3)?;
+    lent_header(out, "play S 1048577", 0, 1048577)?;
+    lent_header(out, "play S 4", 0, 4)?;
+    lent_header(out, "play T -1", 1, -1)?;
+    lent_header(out, "play T 5", 1, 5)?;
+    lent_header(out, "play T 2", 1, 2)
 }
 
 // A studio's store with a wrong length, and a store of another top level than the voice's.
-fn headers() {
-    lent_header(b"play 18, level 0", 2, 2);
-    lent_header(b"play 18, level 1", 3, 3);
-    lent_header(b"play 19", 1, 0);
-    lent_store(b"play", &SILENT);
+fn headers(out: &mut impl Write) -> io::Result<()> {
+    lent_header(out, "play 18, level 0", 2, 2)?;
+    lent_header(out, "play 18, level 1", 3, 3)?;
+    lent_header(out, "play 19", 1, 0)?;
+    lent_store(out, "play", &SILENT)
 }
 
-fn lent_voice(label: &[u8], field: u32, x: u64, store: &[i32]) {
-    lent(label, damage::with(fresh(), field, x), &K, store);
+fn lent_voice(
+    out: &mut impl Write,
+    label: &str,
+    field: u32,
+    x: u64,
+    store: &[i32],
+) -> io::Result<()> {
+    lent(out, label, damage::with(fresh(), field, x), &K, store)
 }
 
 // Conditions of a book, a store and a voice at once.
-fn mixed() {
-    lent(b"play 1 and 9", fresh(), &K[..4], &SILENT[..0]);
+fn mixed(out: &mut impl Write) -> io::Result<()> {
+    lent(out, "play 1 and 9", fresh(), &K[..4], &SILENT[..0])?;
     lent_voice(
-        b"play 18 and 13",
+        out,
+        "play 18 and 13",
         damage::TO,
         2,
         &[3, 1, 2, 2, 0, 0, 0, 0, 0],
-    );
-    lent_voice(b"play 13 and 19", damage::TOP, 5, &SILENT);
-    lent_voice(b"play 19, T 0", damage::TOP, 0, &SILENT);
-    lent_voice(b"play 19, T 2", damage::TOP, 2, &SILENT);
-    lent_voice(b"play 19 and 14", damage::STEP, 1, &[3, 0, 3, 0, 0, 0]);
-    lent_voice(b"play 19 and 17", damage::POINT, LOUD, &[3, 0, 3, 0, 0, 0]);
+    )?;
+    lent_voice(out, "play 13 and 19", damage::TOP, 5, &SILENT)?;
+    lent_voice(out, "play 19, T 0", damage::TOP, 0, &SILENT)?;
+    lent_voice(out, "play 19, T 2", damage::TOP, 2, &SILENT)?;
+    lent_voice(out, "play 19 and 14", damage::STEP, 1, &[3, 0, 3, 0, 0, 0])?;
+    lent_voice(
+        out,
+        "play 19 and 17",
+        damage::POINT,
+        LOUD,
+        &[3, 0, 3, 0, 0, 0],
+    )
 }
 
 // A play of no outputs leaves the voice as it was.
-fn no_outputs() {
-    let mut out = [7i16; 1];
-    played(b"play 0", fresh(), &K, &SILENT, &mut out[..0]);
+fn no_outputs(out: &mut impl Write) -> io::Result<()> {
+    let mut block = [7i16; 1];
+    played(out, "play 0", fresh(), &K, &SILENT, &mut block[..0])
 }
 
-fn main() {
-    limits();
-    no_rates();
-    glide();
-    glides_past_the_band();
-    bands();
-    all_counts();
-    orders();
-    seeks();
-    state(b"fresh", fresh());
-    fades();
-    rates();
-    places();
-    pairs();
-    sizes();
-    words();
-    stores();
-    headers();
-    mixed();
-    no_outputs();
+fn main(rt: HostRuntime) -> io::Result<()> {
+    let mut out = BufWriter::new(rt.alloc(), io::writer(&rt))?;
+    limits(&mut out)?;
+    no_rates(&mut out)?;
+    glide(&mut out)?;
+    glides_past_the_band(&mut out)?;
+    bands(&mut out)?;
+    all_counts(&mut out)?;
+    orders(&mut out)?;
+    seeks(&mut out)?;
+    state(&mut out, "fresh", fresh())?;
+    fades(&mut out)?;
+    rates(&mut out)?;
+    places(&mut out)?;
+    pairs(&mut out)?;
+    sizes(&mut out)?;
+    words(&mut out)?;
+    stores(&mut out)?;
+    headers(&mut out)?;
+    mixed(&mut out)?;
+    no_outputs(&mut out)?;
+    out.flush()
 }

@@ -4,6 +4,8 @@ use crate::lines;
 use crate::rates::rate_of;
 use control::{Card, Order};
 use player::{Answer, Voice};
+use std::io;
+use std::io::Write;
 
 pub const JUMP: u64 = 0;
 
@@ -21,81 +23,111 @@ fn low(x: u64) -> u32 {
 }
 
 // Prints an answer's number and hands on its voice.
-fn answered(a: Answer) -> Voice {
-    lines::number(b"number", a.number as u64);
-    a.voice
+fn answered(out: &mut impl Write, a: Answer) -> io::Result<Voice> {
+    lines::number(out, "number", a.number as u64)?;
+    Ok(a.voice)
 }
 
-pub fn opened(bits: u32, top: u32) -> Voice {
-    lines::rate(b"open", bits);
-    answered(Voice::open(Card {
-        rate: rate_of(bits),
-        top,
-    }))
+pub fn opened(out: &mut impl Write, bits: u32, top: u32) -> io::Result<Voice> {
+    lines::rate(out, "open", bits)?;
+    answered(
+        out,
+        Voice::open(Card {
+            rate: rate_of(bits),
+            top,
+        }),
+    )
 }
 
-fn jumped(v: Voice, bits: u32) -> Voice {
-    lines::rate(b"jump", bits);
-    answered(v.order(Order::Jump(rate_of(bits))))
+fn jumped(out: &mut impl Write, v: Voice, bits: u32) -> io::Result<Voice> {
+    lines::rate(out, "jump", bits)?;
+    answered(out, v.order(Order::Jump(rate_of(bits))))
 }
 
-fn gliding(v: Voice, bits: u32, count: u32) -> Voice {
-    lines::glide(bits, count);
-    answered(v.order(Order::Glide {
-        target: rate_of(bits),
-        count,
-    }))
+fn gliding(out: &mut impl Write, v: Voice, bits: u32, count: u32) -> io::Result<Voice> {
+    lines::glide(out, bits, count)?;
+    answered(
+        out,
+        v.order(Order::Glide {
+            target: rate_of(bits),
+            count,
+        }),
+    )
 }
 
-fn sought(v: Voice, position: u64) -> Voice {
-    lines::number(b"seek", position);
-    answered(v.seek(position))
+fn sought(out: &mut impl Write, v: Voice, position: u64) -> io::Result<Voice> {
+    lines::number(out, "seek", position)?;
+    answered(out, v.seek(position))
 }
 
 // A play into the whole slice.
-fn filled(v: Voice, book: &[i32], store: &[i32], out: &mut [i16]) -> Voice {
-    lines::number(b"play", out.len() as u64);
-    let a = v.play(book, store, out);
-    lines::number(b"number", a.number as u64);
-    lines::number(b"multiplies", a.multiplies);
-    lines::samples(b"out", out);
-    a.voice
+fn filled(
+    out: &mut impl Write,
+    v: Voice,
+    book: &[i32],
+    store: &[i32],
+    block: &mut [i16],
+) -> io::Result<Voice> {
+    lines::number(out, "play", block.len() as u64)?;
+    let a = v.play(book, store, block);
+    lines::number(out, "number", a.number as u64)?;
+    lines::number(out, "multiplies", a.multiplies)?;
+    lines::samples(out, "out", block)?;
+    Ok(a.voice)
 }
 
 // A play of at most 200 outputs, whose words are 77 before it.
-fn played(v: Voice, book: &[i32], store: &[i32], count: usize) -> Voice {
+fn played(
+    out: &mut impl Write,
+    v: Voice,
+    book: &[i32],
+    store: &[i32],
+    count: usize,
+) -> io::Result<Voice> {
     let mut room = [77i16; 200];
     if 200 < count {
-        return v;
+        return Ok(v);
     }
-    filled(v, book, store, &mut room[..count])
+    filled(out, v, book, store, &mut room[..count])
 }
 
 // A jump, a glide or a seek.
-fn steered(v: Voice, call: u64) -> Voice {
+fn steered(out: &mut impl Write, v: Voice, call: u64) -> io::Result<Voice> {
     if call < GLIDE {
-        return jumped(v, low(call));
+        return jumped(out, v, low(call));
     }
     if call < SEEK {
-        return gliding(v, low(call), low((call - GLIDE) / COUNT));
+        return gliding(out, v, low(call), low((call - GLIDE) / COUNT));
     }
-    sought(v, call - SEEK)
+    sought(out, v, call - SEEK)
 }
 
-fn called(v: Voice, call: u64, book: &[i32], store: &[i32]) -> Voice {
+fn called(
+    out: &mut impl Write,
+    v: Voice,
+    call: u64,
+    book: &[i32],
+    store: &[i32],
+) -> io::Result<Voice> {
     if call < PLAY {
-        return steered(v, call);
+        return steered(out, v, call);
     }
-    played(v, book, store, (call - PLAY) as usize)
+    played(out, v, book, store, (call - PLAY) as usize)
 }
 
 // All calls, each from the voice that the last one handed back.
-pub fn all(voice: Voice, calls: &[u64], book: &[i32], store: &[i32]) -> Voice {
+pub fn all(
+    out: &mut impl Write,
+    voice: Voice,
+    calls: &[u64],
+    book: &[i32],
+    store: &[i32],
+) -> io::Result<Voice> {
     let mut v = voice;
     let mut k = 0;
     while k < calls.len() {
-        v = called(v, calls[k], book, store);
+        v = called(out, v, calls[k], book, store)?;
         k += 1;
     }
-    v
+    Ok(v)
 }

@@ -1,6 +1,8 @@
 // Drive 19505, made by rust/drives.
 use crate::calls::{COUNT, GLIDE, JUMP, PLAY, SEEK};
 use crate::drive;
+use std::io;
+use std::io::Write;
 
 const BOOK: [i32; 28] = [
     2, 4, 3, 2, 6, 0, -5210, -5020, -21904, -32768, -32188, -32768, -32410, -5020, -16694, -27748,
@@ -28,6 +30,6 @@ const CALLS: [u64; 12] = [
     PLAY + 0,
 ];
 
-pub fn text() {
-    drive::text(19505, &BOOK, &SAMPLES, 1, 0x4072b5b7, &CALLS);
+pub fn text(out: &mut impl Write) -> io::Result<()> {
+    drive::text(out, 19505, &BOOK, &SAMPLES, 1, 0x4072b5b7, &CALLS)
 }

@@ -1,6 +1,8 @@
 // Drive 2184, made by rust/drives.
 use crate::calls::{COUNT, GLIDE, JUMP, PLAY, SEEK};
 use crate::drive;
+use std::io;
+use std::io::Write;
 
 const BOOK: [i32; 28] = [
     2, 4, 3, 2, 5, 0, 32767, 163, 30625, 32767, 15378, 5294, 16986, 163, -2142, 32604, -15247,
@@ -30,6 +32,6 @@ const CALLS: [u64; 12] = [
     GLIDE + 15 * COUNT + 0x406fffff,
 ];
 
-pub fn text() {
-    drive::text(2184, &BOOK, &SAMPLES, 2, 0x40ffffff, &CALLS);
+pub fn text(out: &mut impl Write) -> io::Result<()> {
+    drive::text(out, 2184, &BOOK, &SAMPLES, 2, 0x40ffffff, &CALLS)
 }

@@ -1,6 +1,8 @@
 // Drive 23, made by rust/drives.
 use crate::calls::{COUNT, GLIDE, JUMP, PLAY, SEEK};
 use crate::drive;
+use std::io;
+use std::io::Write;
 
 const BOOK: [i32; 20] = [
     2, 2, 2, 3, 1, 0, -24317, -32768, -29043, -32768, -4726, 8451, 29043, 10144, 0, 11312, 2630, 0,
@@ -26,6 +28,6 @@ const CALLS: [u64; 12] = [
     JUMP + 0x3f700000,
 ];
 
-pub fn text() {
-    drive::text(23, &BOOK, &SAMPLES, 0, 0x7f800000, &CALLS);
+pub fn text(out: &mut impl Write) -> io::Result<()> {
+    drive::text(out, 23, &BOOK, &SAMPLES, 0, 0x7f800000, &CALLS)
 }

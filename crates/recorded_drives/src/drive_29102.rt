@@ -1,6 +1,8 @@
 // Drive 29102, made by rust/drives.
 use crate::calls::{COUNT, GLIDE, JUMP, PLAY, SEEK};
 use crate::drive;
+use std::io;
+use std::io::Write;
 
 const BOOK: [i32; 11] = [2, 1, 0, 0, 8, 0, 32767, 32767, -32767, -32768, 32767];
 
@@ -21,6 +23,6 @@ const CALLS: [u64; 12] = [
     PLAY + 3,
 ];
 
-pub fn text() {
-    drive::text(29102, &BOOK, &SAMPLES, 2, 0x3f7fffff, &CALLS);
+pub fn text(out: &mut impl Write) -> io::Result<()> {
+    drive::text(out, 29102, &BOOK, &SAMPLES, 2, 0x3f7fffff, &CALLS)
 }

@@ -1,6 +1,8 @@
 // Drive 33350, made by rust/drives.
 use crate::calls::{COUNT, GLIDE, JUMP, PLAY, SEEK};
 use crate::drive;
+use std::io;
+use std::io::Write;
 
 const BOOK: [i32; 24] = [
     4, 2, 0, 1, 4, 0, -32768, -32768, 0, -7111, 0, -31246, -27179, -7111, 32768, 1522, -27179,
@@ -28,6 +30,6 @@ const CALLS: [u64; 12] = [
     PLAY + 3,
 ];
 
-pub fn text() {
-    drive::text(33350, &BOOK, &SAMPLES, 3, 0x3e173627, &CALLS);
+pub fn text(out: &mut impl Write) -> io::Result<()> {
+    drive::text(out, 33350, &BOOK, &SAMPLES, 3, 0x3e173627, &CALLS)
 }

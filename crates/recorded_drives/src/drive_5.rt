@@ -1,6 +1,8 @@
 // Drive 5, made by rust/drives.
 use crate::calls::{COUNT, GLIDE, JUMP, PLAY, SEEK};
 use crate::drive;
+use std::io;
+use std::io::Write;
 
 const BOOK: [i32; 19] = [
     2, 2, 3, 1, 6, 0, 32767, 32767, -32768, 32767, -65535, 0, 32768, 10940, -7305, 751, -2858,
@@ -28,6 +30,6 @@ const CALLS: [u64; 12] = [
     PLAY + 8,
 ];
 
-pub fn text() {
-    drive::text(5, &BOOK, &SAMPLES, 2, 0x7f7fffff, &CALLS);
+pub fn text(out: &mut impl Write) -> io::Result<()> {
+    drive::text(out, 5, &BOOK, &SAMPLES, 2, 0x7f7fffff, &CALLS)
 }

@@ -1,6 +1,8 @@
 // Drive 7, made by rust/drives.
 use crate::calls::{COUNT, GLIDE, JUMP, PLAY, SEEK};
 use crate::drive;
+use std::io;
+use std::io::Write;
 
 const BOOK: [i32; 20] = [
     4, 1, 2, 3, 3, 0, 31843, 17333, 16360, 31843, -14510, -973, -16360, 24015, 0, 4084, 25436,
@@ -28,6 +30,6 @@ const CALLS: [u64; 12] = [
     GLIDE + 12 * COUNT + 0x3f785000,
 ];
 
-pub fn text() {
-    drive::text(7, &BOOK, &SAMPLES, 0, 0x3eaec07e, &CALLS);
+pub fn text(out: &mut impl Write) -> io::Result<()> {
+    drive::text(out, 7, &BOOK, &SAMPLES, 0, 0x3eaec07e, &CALLS)
 }

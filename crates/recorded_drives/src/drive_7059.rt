@@ -1,6 +1,8 @@
 // Drive 7059, made by rust/drives.
 use crate::calls::{JUMP, PLAY, SEEK};
 use crate::drive;
+use std::io;
+use std::io::Write;
 
 const BOOK: [i32; 13] = [
     2, 1, 0, 2, 4, 0, 32767, 32767, -32767, -16384, 18054, -7357, 0,
@@ -26,6 +28,6 @@ const CALLS: [u64; 12] = [
     PLAY + 4,
 ];
 
-pub fn text() {
-    drive::text(7059, &BOOK, &SAMPLES, 3, 0x40f00000, &CALLS);
+pub fn text(out: &mut impl Write) -> io::Result<()> {
+    drive::text(out, 7059, &BOOK, &SAMPLES, 3, 0x40f00000, &CALLS)
 }

@@ -16,13 +16,18 @@ mod drive_7059;
 mod lines; // lines of text
 mod rates; // rates by their bits
 
-fn main() {
-    drive_5::text();
-    drive_7::text();
-    drive_23::text();
-    drive_2184::text();
-    drive_7059::text();
-    drive_19505::text();
-    drive_29102::text();
-    drive_33350::text();
+use std::io;
+use std::io::{BufWriter, Write};
+
+fn main(rt: HostRuntime) -> io::Result<()> {
+    let mut out = BufWriter::new(rt.alloc(), io::writer(&rt))?;
+    drive_5::text(&mut out)?;
+    drive_7::text(&mut out)?;
+    drive_23::text(&mut out)?;
+    drive_2184::text(&mut out)?;
+    drive_7059::text(&mut out)?;
+    drive_19505::text(&mut out)?;
+    drive_29102::text(&mut out)?;
+    drive_33350::text(&mut out)?;
+    out.flush()
 }

@@ -2,8 +2,11 @@
 // of a level's words, of values in each of the three ways in which the player makes them, of points in a fade, and of outputs.
 
 #![tactic(auto)]
+
 use control::{Card, Order};
 use player::Voice;
+use std::io;
+use std::io::{BufWriter, Write};
 
 // Document 01's book K.
 const K: [i32; 11] = [2, 1, 0, 0, 1, 0, 16384, 16384, -16384, 16384, 16384];
@@ -27,12 +30,12 @@ const WORD_2: u64 = 536870912;
 const STEP: u64 = 134217728;
 
 // Words of level 1, from 1/2 to 5/2 and from -1/2 to -5/2.
-fn level() {
+fn level(out: &mut impl Write) -> io::Result<()> {
     let samples = [1i16, 0, 3, 0, 5, 0, -1, 0, -3, 0, -5];
     let mut store = [0i32; 21];
     levels::build(&HALVED, &samples, 1, &mut store);
-    io::write_all(1, b"level");
-    print::integers(&store[15..]);
+    write!(out, "level")?;
+    print::integers(out, &store[15..])
 }
 
 // A store of 302 samples with top level 1: its words are w, the last one of level 0 is `last`.
@@ -80,37 +83,33 @@ fn in_many(store: &[i32]) -> i32 {
 
 // The same in these two and in a fade. There it is three quarters of the value and one of level 1's, which is w / 512 rounded: so little that the
 // mean is the value.
-fn ways(store: &[i32]) {
-    print::next_integer(in_one(store));
-    print::next_integer(in_many(store));
-    print::next_integer(first_of_fade(BEHIND, &QUIET, store));
-    print::end_line();
+fn ways(out: &mut impl Write, store: &[i32]) -> io::Result<()> {
+    let fading = first_of_fade(BEHIND, &QUIET, store);
+    writeln!(out, " {} {} {fading}", in_one(store), in_many(store))
 }
 
-fn value(w: i32, last: i32) {
-    io::write_all(1, b"value");
-    print::next_integer(w);
-    print::next_integer(last);
-    ways(&store_of(w, last));
+fn value(out: &mut impl Write, w: i32, last: i32) -> io::Result<()> {
+    write!(out, "value {w} {last}")?;
+    ways(out, &store_of(w, last))
 }
 
 // Halves, and what lies just above and below them, by so little that only the rest of a division tells.
-fn values() {
-    value(256, 257);
-    value(256, 256);
-    value(256, 255);
-    value(768, 769);
-    value(768, 768);
-    value(768, 767);
+fn values(out: &mut impl Write) -> io::Result<()> {
+    value(out, 256, 257)?;
+    value(out, 256, 256)?;
+    value(out, 256, 255)?;
+    value(out, 768, 769)?;
+    value(out, 768, 768)?;
+    value(out, 768, 767)
 }
 
-fn values_below_zero() {
-    value(-256, -255);
-    value(-256, -256);
-    value(-256, -257);
-    value(-768, -767);
-    value(-768, -768);
-    value(-768, -769);
+fn values_below_zero(out: &mut impl Write) -> io::Result<()> {
+    value(out, -256, -255)?;
+    value(out, -256, -256)?;
+    value(out, -256, -257)?;
+    value(out, -768, -767)?;
+    value(out, -768, -768)?;
+    value(out, -768, -769)
 }
 
 // A store of 8 samples with top level 1: the words of level 0 are w, those of level 1 are 0.
@@ -119,43 +118,44 @@ fn even_store(w: i32) -> [i32; 16] {
 }
 
 // The first of two points of a fade: a half of the old level's value.
-fn faded(w: i32) {
-    print::next_integer(first_of_fade(WORD_2, &FADED, &even_store(w)));
+fn faded(out: &mut impl Write, w: i32) -> io::Result<()> {
+    print::next_integer(out, first_of_fade(WORD_2, &FADED, &even_store(w)))
 }
 
-fn fades() {
-    io::write_all(1, b"fade");
-    faded(1);
-    faded(3);
-    faded(5);
-    faded(-1);
-    faded(-3);
-    faded(-5);
-    print::end_line();
+fn fades(out: &mut impl Write) -> io::Result<()> {
+    write!(out, "fade")?;
+    faded(out, 1)?;
+    faded(out, 3)?;
+    faded(out, 5)?;
+    faded(out, -1)?;
+    faded(out, -3)?;
+    faded(out, -5)?;
+    print::end_line(out)
 }
 
 // An output of a word that stands for a sample / 256.
-fn output(w: i32) {
-    let mut out = [0i16; 1];
-    at(WORD_2).play(&K, &even_store(w), &mut out);
-    io::write_all(1, b"output");
-    print::next_integer(w);
-    print::samples(&out);
+fn output(out: &mut impl Write, w: i32) -> io::Result<()> {
+    let mut samples = [0i16; 1];
+    at(WORD_2).play(&K, &even_store(w), &mut samples);
+    write!(out, "output {w}")?;
+    print::samples(out, &samples)
 }
 
-fn outputs() {
-    output(128);
-    output(384);
-    output(640);
-    output(-128);
-    output(-384);
-    output(-640);
+fn outputs(out: &mut impl Write) -> io::Result<()> {
+    output(out, 128)?;
+    output(out, 384)?;
+    output(out, 640)?;
+    output(out, -128)?;
+    output(out, -384)?;
+    output(out, -640)
 }
 
-fn main() {
-    level();
-    values();
-    values_below_zero();
-    fades();
-    outputs();
+fn main(rt: HostRuntime) -> io::Result<()> {
+    let mut out = BufWriter::new(rt.alloc(), io::writer(&rt))?;
+    level(&mut out)?;
+    values(&mut out)?;
+    values_below_zero(&mut out)?;
+    fades(&mut out)?;
+    outputs(&mut out)?;
+    out.flush()
 }

@@ -2,36 +2,48 @@
 // line. `stdout` has the text of rust/renderer, a renderer of other authorship.
 
 #![tactic(auto)]
+
 use player::Voice;
+use std::io;
+use std::io::{BufWriter, Write};
 use test_setting::Setting;
 use test_setting::orders::next_order;
 
 // Plays 20 outputs and prints them.
-fn played(v: Voice, book: &[i32], store: &[i32]) -> Voice {
-    let mut out = [0i16; 20];
-    let answer = v.play(book, store, &mut out);
-    print::lines(&out);
-    answer.voice
+fn played(out: &mut impl Write, v: Voice, book: &[i32], store: &[i32]) -> io::Result<Voice> {
+    let mut block = [0i16; 20];
+    let answer = v.play(book, store, &mut block);
+    print::lines(out, &block)?;
+    Ok(answer.voice)
 }
 
 // Draws 64 orders, and plays after each.
-fn drive(voice: Voice, state: u32, book: &[i32], store: &[i32]) {
+fn drive(
+    out: &mut impl Write,
+    voice: Voice,
+    state: u32,
+    book: &[i32],
+    store: &[i32],
+) -> io::Result<()> {
     let mut v = voice;
     let mut last = state;
     let mut n = 0u32;
     while n < 64 {
         let next = next_order(last);
         let order = next.order;
-        v = played(v.order(order).voice, book, store);
+        v = played(out, v.order(order).voice, book, store)?;
         last = next.state;
         n += 1;
     }
+    Ok(())
 }
 
-fn main() {
+fn main(rt: HostRuntime) -> io::Result<()> {
+    let mut out = BufWriter::new(rt.alloc(), io::writer(&rt))?;
     let s = Setting::new();
     let book = s.book;
     let store = s.store;
     let voice = s.voice;
-    drive(voice, s.state, &book, &store);
+    drive(&mut out, voice, s.state, &book, &store)?;
+    out.flush()
 }
