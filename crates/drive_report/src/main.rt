@@ -3,10 +3,13 @@
 
 #![tactic(auto)]
 
-ghost use Rattle.io.specs.Counts.{IsPrefixLen};
+ghost use Rattle.std.specs.Prelude.{◌≡◌, ◌≤◌, length, take};
+ghost use Rattle.std.specs.Io.{ReadsAtMost};
 
 use player::Voice;
 use report::{Report, TEXT_BYTES};
+use std::io;
+use std::io::{Read, Write};
 use test_setting::Setting;
 
 // A report after a read, and whether the input goes on.
@@ -18,76 +21,99 @@ struct Once {
 
 // A count of a slice's bytes: n, or all where that is more.
 fn within(n: usize, bytes: &[u8]) -> usize
-    ensures { IsPrefixLen result bytes.now }
+    ensures { (result ≤ length bytes.now) × (result ≡ length (take result bytes.now)) }
 {
     if n < bytes.len() { n } else { bytes.len() }
 }
 
 // Reads at most `most` bytes: a pipe may hand out fewer. None are left where it hands back 0.
-fn read(buffer: &mut [u8], most: usize) -> usize
-    ensures { IsPrefixLen result buffer.new }
+fn read<R: Read>(input: &mut R, buffer: &mut [u8], most: usize) -> io::Result<usize>
+    ensures { ReadsAtMost result buffer.new }
 {
     let room = within(most, buffer);
-    let got = libc::read(0, &mut buffer[..room]);
-    io::count(got, buffer)
+    input.read(&mut buffer[..room])
 }
 
-fn print(text: &[u8], count: usize) -> bool {
+fn print(out: &mut impl Write, text: &[u8], count: usize) -> io::Result<()> {
     let n = within(count, text);
-    io::write_all(1, &text[..n])
+    out.write_all(&text[..n])
 }
 
 // Reads once, not past the input's limit, and prints what that gives.
 fn read_once(
+    input: &mut impl Read,
+    out: &mut impl Write,
     report: Report,
     book: &[i32],
     store: &[i32],
     buffer: &mut [u8],
     text: &mut [u8; TEXT_BYTES],
-) -> Once {
-    let count = read(buffer, report.left as usize);
+) -> io::Result<Once> {
+    let count = read(input, buffer, report.left as usize)?;
     if count == 0 {
-        return Once {
+        return Ok(Once {
             report,
             goes_on: false,
-        };
+        });
     }
     let piece = report.read(&buffer[..count], book, store, text);
     let after = piece.report;
-    Once {
+    print(out, text, piece.count)?;
+    Ok(Once {
         report: after,
-        goes_on: print(text, piece.count),
-    }
+        goes_on: true,
+    })
 }
 
 // Reads to the end of the input or to its limit: a turn for each byte is enough, and one that finds the end.
-fn read_all(report: Report, book: &[i32], store: &[i32], text: &mut [u8; TEXT_BYTES]) -> Report {
-    let mut buffer = io::buffer();
+fn read_all(
+    input: &mut impl Read,
+    out: &mut impl Write,
+    report: Report,
+    book: &[i32],
+    store: &[i32],
+    text: &mut [u8; TEXT_BYTES],
+) -> io::Result<Report> {
+    let mut buffer = [0u8; 4096];
     let mut now = report;
     let mut turns = 0u32;
     while turns < 1048577 {
-        let once = read_once(now, book, store, &mut buffer, text);
+        let once = read_once(input, out, now, book, store, &mut buffer, text)?;
         now = once.report;
         if !once.goes_on {
-            return now;
+            return Ok(now);
         }
         turns += 1;
     }
-    now
+    Ok(now)
 }
 
 // The whole input on a voice, and at its end the last line and the totals.
-fn run(voice: Voice, book: &[i32], store: &[i32], text: &mut [u8; TEXT_BYTES]) {
-    let report = read_all(Report::fresh(voice), book, store, text);
+fn run(
+    input: &mut impl Read,
+    out: &mut impl Write,
+    voice: Voice,
+    book: &[i32],
+    store: &[i32],
+    text: &mut [u8; TEXT_BYTES],
+) -> io::Result<()> {
+    let report = read_all(input, out, Report::fresh(voice), book, store, text)?;
     let count = report.end(book, store, text);
-    print(text, count);
+    print(out, text, count)
 }
 
-fn main() {
+fn main(rt: HostRuntime) -> io::Result<()> {
     let s = Setting::new();
     let book = s.book;
     let store = s.store;
     let voice = s.voice;
     let mut text = [0u8; TEXT_BYTES];
-    run(voice, &book, &store, &mut text);
+    run(
+        &mut rt.stdin(),
+        &mut rt.stdout(),
+        voice,
+        &book,
+        &store,
+        &mut text,
+    )
 }

@@ -7,7 +7,7 @@ ghost use Rattle.drive_text.specs.Numbers.{is_digit};
 ghost use Rattle.drive_text.specs.Inner.{next_number, next_word, next_scan, is_begun, scanned_line};
 
 // What a line says: a jump or a glide to a rate of so many 256ths, a seek to P, a play of so many outputs, or nothing of these.
-#[derive(Drop)]
+#[derive(Clone, Copy)]
 pub enum Line {
     Jump(u64),
     Glide { rate: u64, count: u64 },
@@ -17,7 +17,7 @@ pub enum Line {
 }
 
 // What the bytes of a line said so far: nothing before the first, then its word as a number, then its numbers.
-#[derive(Drop)]
+#[derive(Clone, Copy)]
 pub enum Scan {
     Fresh,
     Word(u64),

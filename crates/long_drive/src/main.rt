@@ -3,11 +3,14 @@
 // what rust/renderer, a renderer of other authorship, computes from the same drive.
 
 #![tactic(auto)]
+
 ghost use Rattle.std.specs.Prelude.{◌≤◌};
 
 use control::{Card, Order};
 use filter::Book;
 use player::Voice;
+use std::io;
+use std::io::{BufWriter, Write};
 
 mod filter; // the book
 
@@ -85,11 +88,12 @@ fn driven(voice: Voice, book: &[i32], store: &[i32], block: &mut [i16]) -> u64 {
 }
 
 // The last two samples of a block.
-fn last_two(block: &[i16]) {
+fn last_two(out: &mut impl Write, block: &[i16]) -> io::Result<()> {
     if 2 <= block.len() {
         let start = block.len() - 2;
-        print::samples(&block[start..]);
+        print::samples(out, &block[start..])?;
     }
+    Ok(())
 }
 
 // Builds the store of the hum, with the levels 0 to 2.
@@ -99,16 +103,18 @@ fn built(book: &Book, store: &mut Store) {
     levels::build(book, &samples, 2, store);
 }
 
-fn drive(book: &Book, store: &Store) {
+fn drive(out: &mut impl Write, book: &Book, store: &Store) -> io::Result<()> {
     let mut block = [0i16; 4000];
     let v = Voice::open(Card { rate: 1.5, top: 2 }).voice;
-    io::print_decimal(1, driven(v, book, store, &mut block));
-    last_two(&block);
+    write!(out, "{}", driven(v, book, store, &mut block))?;
+    last_two(out, &block)
 }
 
-fn main() {
+fn main(rt: HostRuntime) -> io::Result<()> {
+    let mut out = BufWriter::new(rt.alloc(), io::writer(&rt))?;
     let book = filter::BOOK;
     let mut store = [0i32; 65536];
     built(&book, &mut store);
-    drive(&book, &store);
+    drive(&mut out, &book, &store)?;
+    out.flush()
 }
