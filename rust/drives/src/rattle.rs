@@ -22,11 +22,32 @@ pub const SEEDS: [u64; 8] = [5, 7, 23, 2184, 7059, 19505, 29102, 33350];
 /// formatter of the language has it.
 const ONE_LINE: usize = 60;
 
+/// Longest element of an array that stands on a line with others.
+const SHORT: usize = 10;
+
+/// Longest line.
+const LINE: usize = 100;
+
+/// Short elements, as many on a line as fit.
+fn filled(elements: &[String]) -> String {
+    let mut lines: Vec<String> = Vec::new();
+    for element in elements {
+        match lines.last_mut() {
+            Some(line) if line.len() + 2 + element.len() < LINE => *line += &format!(" {element},"),
+            _ => lines.push(format!("    {element},")),
+        }
+    }
+    lines.join("\n")
+}
+
 /// An array's elements in brackets.
 fn array(elements: &[String]) -> String {
     let line = elements.join(", ");
-    match line.len() <= ONE_LINE {
-        true => format!("[{line}]"),
+    if line.len() <= ONE_LINE {
+        return format!("[{line}]");
+    }
+    match elements.iter().all(|element| element.len() <= SHORT) {
+        true => format!("[\n{}\n]", filled(elements)),
         false => format!("[\n    {},\n]", elements.join(",\n    ")),
     }
 }
@@ -76,17 +97,19 @@ pub fn module(drive: &SmallDrive) -> String {
     names.sort_unstable();
     names.dedup();
     let mut text = format!("// Drive {}, made by rust/drives.\n", drive.seed);
-    for name in names {
-        text += &format!("use crate::calls::{name};\n");
+    match &names[..] {
+        [name] => text += &format!("use crate::calls::{name};\n"),
+        _ => text += &format!("use crate::calls::{{{}}};\n", names.join(", ")),
     }
-    text += "use crate::drive;\n\n";
+    text += "use crate::drive;\nuse std::io;\nuse std::io::Write;\n\n";
     text += &constant("BOOK", "i32", &drive.setting.book);
     text += &constant("SAMPLES", "i16", &drive.setting.samples);
     let numbers: Vec<String> = calls().map(number).collect();
     text += &constant("CALLS", "u64", &numbers);
     let (seed, top, rate) = (drive.seed, drive.setting.top, drive.rate.to_bits());
     let given = format!("{seed}, &BOOK, &SAMPLES, {top}, 0x{rate:08x}, &CALLS");
-    text + &format!("pub fn text() {{\n    drive::text({given});\n}}\n")
+    text += "pub fn text(out: &mut impl Write) -> io::Result<()> {\n";
+    text + &format!("    drive::text(out, {given})\n}}\n")
 }
 
 /// The files of the drives of these seeds, by their paths in the program's

@@ -44,8 +44,9 @@ fn no_other_drives() {
         .collect();
     let expected = SEEDS.map(|seed| format!("drive_{seed}.rt"));
     assert_eq!(modules, BTreeSet::from(expected));
-    let printed: Vec<&str> = main.lines().filter(|l| l.ends_with("::text();")).collect();
-    let expected = SEEDS.map(|seed| format!("    drive_{seed}::text();"));
+    let call = "::text(&mut out)?;";
+    let printed: Vec<&str> = main.lines().filter(|l| l.ends_with(call)).collect();
+    let expected = SEEDS.map(|seed| format!("    drive_{seed}{call}"));
     assert_eq!(printed, expected);
 }
 
