@@ -12,7 +12,7 @@ use borrow.Author.Tests.{ltb-true, le-ltb, lt-ltb, le-leb, lt-leb, ne_eqb}
 use Rattle.arith.proofs.Tests.{&&-right, &&-true}
 use Rattle.control.specs.Rate.{octave_level, asked_level}
 use Rattle.control.specs.Inner.{band_of, in_band}
-use Rattle.control.proofs.Rates.{octave-≤, octave_high}
+use Rattle.control.proofs.Rates.{octave-≤, octave_high, stays_down}
 
 -- 16 × R < 15 × 2^(27+l), with both sides in sixteenths
 sixteenths : (l R : ℕ) → not (ltb (16 * R) (15 * 2 ^ (27 + l))) ≡ leb (15 * 2 ^ (23 + l)) R
@@ -27,7 +27,7 @@ sixteenths l R = go (dec_lt R (15 * 2 ^ (23 + l)))
 
 pub band_high : (l R : ℕ) → in_band (band_of l) R ≡ true → R < 2 ^ (28 + l)
 unfolding band_of
-band_high l R h = ltb-true R (2 ^ (28 + l)) (&&-right (leb (band_of l).low R) (ltb R (2 ^ (28 + l))) h)
+band_high l R h = ltb-true R (2 ^ (28 + l)) (&&-right _ (ltb R (2 ^ (28 + l))) h)
 
 -- below the current level the upper end is not reached, and from it on the lower one does not matter
 pub band_asked : (l R : ℕ) → l ≤ 4 → asked_level l R ≡ cond (in_band (band_of l) R) l (octave_level R)
@@ -41,8 +41,8 @@ band_asked l R h = go (dec_lt (octave_level R) l)
     above true e p = omega (arith, octave-≤ R l (band_high l R e))
     above false e p = refl
 
-    go : Dec (octave_level R < l) → cond (ltb (octave_level R) l && not (ltb (16 * R) (15 * 2 ^ (27 + l)))) l (octave_level R) ≡ cond (in_band (band_of l) R) l (octave_level R)
-    go (yes p) = simp (lt-ltb (octave_level R) l p, ne_eqb l 0 (λ z. omega arith), sixteenths l R, lt-ltb R (2 ^ (28 + l)) (low p), &&-true)
+    go : Dec (octave_level R < l) → cond (ltb (octave_level R) l && stays_down l R) l (octave_level R) ≡ cond (in_band (band_of l) R) l (octave_level R)
+    go (yes p) = simp (lt-ltb (octave_level R) l p, ne_eqb l 0 (λ z. omega arith), sixteenths, lt-ltb R (2 ^ (28 + l)) (low p), &&-true)
     go (no p) = simp (le-ltb (octave_level R) l (omega arith)) (above (in_band (band_of l) R) refl p)
 
 pub band_stays : (l R : ℕ) → l ≤ 4 → in_band (band_of l) R ≡ true → asked_level l R ≡ l
@@ -54,4 +54,4 @@ pub ≤-either : (b : Bool) {m n k : ℕ} → m ≤ k → n ≤ k → cond b m n
 
 pub asked-≤ : (l R top : ℕ) → l ≤ top → R < 2 ^ (28 + top) → asked_level l R ≤ top
 unfolding asked_level
-asked-≤ l R top h u = ≤-either (ltb (octave_level R) l && not (ltb (16 * R) (15 * 2 ^ (27 + l)))) h (octave-≤ R top u)
+asked-≤ l R top h u = ≤-either (ltb (octave_level R) l && stays_down l R) h (octave-≤ R top u)

@@ -17,6 +17,10 @@ use borrow.Author.Tests.{eqb-true, leb-true, ltb-true, ltb-false, leb-false, le-
 use Rattle.arith.proofs.Tests.{&&-left, &&-right}
 use Rattle.control.specs.Rate.{rate_in_range, rate_of, octave_level}
 
+-- downwards the level stays
+abbrev pub stays_down : ℕ → ℕ → Bool
+stays_down l R = not (ltb (16 * R) (15 * 2 ^ (27 + l)))
+
 -- ---- the comparisons are the tests of `rate_in_range`
 le_is : (a b : ℕ) → (ltb a b || (eqb a b && true)) ≡ leb a b
 le_is a b = go (leb a b) (ltb a b) refl refl
