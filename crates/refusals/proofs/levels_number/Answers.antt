@@ -1,4 +1,5 @@
 -- `refusals::levels_number` meets its contract: 13, then 19. Assumes nothing.
+use native.Mathlib.Omega.{arith}
 use mathlib.Core.Path.{sym, ◌∙◌}
 use Rattle.arith.proofs.Tests.{tests}
 use Rattle.book.specs.Number.{refuse, ◌otherwise◌}
@@ -11,8 +12,8 @@ returns-then-wrong c = search (sym c.levels_wrong-wrong.ensures ∙ c.if-wrong.t
 
 pub returns-then-c-top : goal.returns-then-c-top
 unfolding levels_number top_wrong refuse ◌otherwise◌
-returns-then-c-top c = search (tests, sym c.levels_wrong-wrong.ensures ∙ c.if-wrong.false)
+returns-then-c-top c = grind (arith, tests)
 
 pub returns : goal.returns
 unfolding levels_number top_wrong refuse ◌otherwise◌
-returns c = search (tests, sym c.levels_wrong-wrong.ensures ∙ c.if-wrong.false)
+returns c = grind (arith, tests)
