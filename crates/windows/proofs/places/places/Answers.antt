@@ -47,13 +47,13 @@ module _ (c : After-shared_slice_known-1) where
       mul-le-mul phase narrow
 
   -- a place more
-  placed : {rows firsts offsets : List ℕ} → rows ≡ set c.loop-k.rows k (distance k % 2 ^ 32 * M / 2 ^ 32 * c.args.width)
-      → firsts ≡ set c.loop-k.firsts k (c.args.spread - distance k / 2 ^ 32) → offsets ≡ set c.loop-k.offsets k (distance k % 2 ^ 32 * M % 2 ^ 32)
-      → PlacesOf M c.args.width c.args.spread (k + 1) distance rows firsts offsets
-  placed e d f = let p = c.loop-k.invariant.2 in record {
+  placed : {rows firsts offsets : List ℕ} {o : ℕ} → rows ≡ set c.loop-k.rows k (distance k % 2 ^ 32 * M / 2 ^ 32 * c.args.width)
+      → firsts ≡ set c.loop-k.firsts k (c.args.spread - distance k / 2 ^ 32) → offsets ≡ set c.loop-k.offsets k o
+      → o ≡ distance k % 2 ^ 32 * M % 2 ^ 32 → PlacesOf M c.args.width c.args.spread (k + 1) distance rows firsts offsets
+  placed e d f g = let p = c.loop-k.invariant.2 in record {
     row = rw e (filled_more 0 (λ j. distance j % 2 ^ 32 * M / 2 ^ 32 * c.args.width) c.loop-k.rows k (omega (arith, c.requires.positions_in_bounds, c.loop-k.invariant.1)) p.row refl);
     first = rw d (filled_more 0 (λ j. c.args.spread - distance j / 2 ^ 32) c.loop-k.firsts k (omega (arith, c.requires.positions_in_bounds, c.loop-k.invariant.1)) p.first refl);
-    offset = rw f (filled_more 0 (λ j. distance j % 2 ^ 32 * M % 2 ^ 32) c.loop-k.offsets k (omega (arith, c.requires.positions_in_bounds, c.loop-k.invariant.1)) p.offset refl);
+    offset = rw f (filled_more 0 (λ j. distance j % 2 ^ 32 * M % 2 ^ 32) c.loop-k.offsets k (omega (arith, c.requires.positions_in_bounds, c.loop-k.invariant.1)) p.offset g);
   }
 
 pub overflow_sub-distance : goal.overflow_sub-distance
@@ -95,7 +95,7 @@ bounds-offsets-k c = omega (arith, c.requires.positions_in_bounds, c.loop-k.inva
 pub loop-k-preserved : goal.loop-k-preserved
 loop-k-preserved c =
     let l = c.loop-k.invariant.1 in
-    (omega arith, (simp length-set l.0, simp length-set l.1, simp length-set l.2), rw (shifted c, phases_are c) (placed c refl refl refl))
+    (omega arith, (simp length-set l.0, simp length-set l.1, simp length-set l.2), rw (shifted c, phases_are c) (placed c refl refl refl (omega arith)))
 
 pub shape_of-rows : goal.shape_of-rows
 shape_of-rows c = c.before.loop-k.invariant.1.0

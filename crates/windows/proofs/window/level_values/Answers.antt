@@ -5,18 +5,19 @@ use mathlib.Core.List.{List}
 use Prim.Native.Nat.{ℕ, suc, ◌+◌, ◌*◌, ◌-◌, ◌/◌, ◌%◌, ◌^◌, ◌≤◌, ◌<◌}
 use native.Mathlib.Nat.{le_trans, div-add-mod', div-mul-le_self, mod-eq_of_lt, le-div_iff_mul-le, div-lt_iff_lt-mul}
 use native.Mathlib.Omega.{arith}
-use lib.IntN.{ℤ}
+use lib.IntN.{ℤ, pos, ◌-ℤ◌}
 use lib.ListN.{length, get_or}
 use lib.Pow.{pow_mono, pow_pos}
-use Rattle.arith.specs.Lists.{tabulate, overwrite}
+use Rattle.arith.specs.Lists.{at, tabulate, overwrite}
 use Rattle.arith.proofs.Lists.{tabulate_ext}
 use Rattle.book.specs.Book.{sizes_of}
 use Rattle.book.proofs.Accepted.{Accepted, accepted, sizes_bounded}
-use Rattle.values.specs.Values.{unit, offset_at, level_value}
+use Rattle.values.specs.Values.{limited_word, unit, offset_at, level_value}
 use Rattle.rows.specs.Rows.{row_width}
+use Rattle.windows.specs.Places.{PlacesOf}
 use Rattle.windows.specs.Runs.{run_value}
 use Rattle.rows.proofs.ImpulseRows.{row_width_between}
-use Rattle.windows.proofs.LevelRuns.{distance_words, Prepared, LevelRun, level-run}
+use Rattle.windows.proofs.LevelRuns.{distance_words, LevelRun, level-run}
 use Rattle.windows.proofs.window.level_values.Goals as goal
 use Rattle.windows.proofs.window.level_values.Goals.{Start}
 
@@ -104,16 +105,24 @@ module _ (s : Start) where
   near_by k h = rw start_is (behind k h, omega (arith, distance_words book level low base (position_at k) (behind k h), before_last k h))
 
   -- once the words are staged
-  abbrev Ready : List ℤ → List ℕ → List ℕ → List ℕ → ℕ → Type 0
-  Ready window rows firsts offsets width =
-      Prepared book sound s.requires.book_value.3 words level low base last apart count position_at behind before_last window rows firsts offsets taps width s.args.layout.phases start reach
-
   module _ {window : List ℤ} {rows firsts offsets : List ℕ} where
-    run : {width : ℕ} → width ≡ row_width taps → Ready window rows firsts offsets width
+    run : {width from : ℕ} → width ≡ row_width taps → length window ≡ 192 → (count ≤ length rows) × (count ≤ length firsts) × (count ≤ length offsets)
+        → ((k : ℕ) → k < reach → at window k ≡ limited_word words level (pos from -ℤ pos k)) → from ≡ last + taps / 2
+        → PlacesOf s.args.layout.phases width (last - base) count (λ k. (position_at k - start) * 2 ^ (4 - level)) rows firsts offsets
         → LevelRun book sound s.requires.book_value.3 words level low base last apart count position_at behind before_last window rows firsts offsets taps reach
-    run e =
-        level-run book sound s.requires.book_value.3 words level low base last apart count position_at behind before_last window rows firsts offsets {reach = reach} taps_are (e ∙ ap row_width taps_are)
+    run e room places_room staged m places =
+        level-run book sound s.requires.book_value.3 words level low base last apart count position_at behind before_last window rows firsts offsets taps_are (e ∙ ap row_width taps_are)
         s.requires.book_value.1 start_is
+        (record {
+          window_room = room;
+          rows_room = places_room.0;
+          firsts_room = places_room.1;
+          offsets_room = places_room.2;
+          enough = omega arith;
+          reach_high = omega (arith, apart, few);
+          staged = λ k h. staged k h ∙ ap (λ n. limited_word words level (pos n -ℤ pos k)) m;
+          places = places;
+        })
 
     -- a line with the run's values
     all_values : LevelRun book sound s.requires.book_value.3 words level low base last apart count position_at behind before_last window rows firsts offsets taps reach
@@ -148,67 +157,29 @@ staged-requires c = let s = c.before.before.before.before.before.before.before.b
 pub sample_run-requires : goal.sample_run-requires
 sample_run-requires c =
     let s : Start = c.before.before.before.before.before.before.before.before.before.before.before.before.before.before.before.before.before.before.before.before in
-    let ready : Ready s c.staged.new.window c.places.new.rows c.places.new.firsts c.places.new.offsets c.row_width.result = record {
-      window_room = omega arith;
-      rows_room = omega (arith, s.requires.level_bound);
-      firsts_room = omega (arith, s.requires.level_bound);
-      offsets_room = omega (arith, s.requires.level_bound);
-      enough = omega arith;
-      reach_high = omega (arith, apart s, few s);
-      staged = c.staged.ensures;
-      places = c.places.ensures;
-    } in
-    let all = run s c.row_width.ensures ready in
-    let p = s.requires.level_bound in
-    (p.3, p.4, p.2, all.0, λ e k h. sixteens (offset_at (book s) (level s) (position_at s k)) e (all.2 k h))
+    let b = s.requires.level_bound in
+    let all = run s c.row_width.ensures (omega arith) (omega (arith, b), omega (arith, b), omega (arith, b)) c.staged.ensures (omega arith) c.places.ensures in
+    (b.3, b.4, b.2, all.0, λ e k h. sixteens (offset_at (book s) (level s) (position_at s k)) e (all.2 k h))
 
 pub returns-then-sample_run : goal.returns-then-sample_run
 returns-then-sample_run c =
     let s : Start = c.before.before.before.before.before.before.before.before.before.before.before.before.before.before.before.before.before.before.before.before.before.before.before in
-    let ready : Ready s c.staged.new.window c.places.new.rows c.places.new.firsts c.places.new.offsets c.row_width.result = record {
-      window_room = omega arith;
-      rows_room = omega (arith, s.requires.level_bound);
-      firsts_room = omega (arith, s.requires.level_bound);
-      offsets_room = omega (arith, s.requires.level_bound);
-      enough = omega arith;
-      reach_high = omega (arith, apart s, few s);
-      staged = c.staged.ensures;
-      places = c.places.ensures;
-    } in
-    let all = run s c.row_width.ensures ready in
+    let b = s.requires.level_bound in
+    let all = run s c.row_width.ensures (omega arith) (omega (arith, b), omega (arith, b), omega (arith, b)) c.staged.ensures (omega arith) c.places.ensures in
     c.sample_run.ensures.0 c.if-sample_run.true ∙ all_values s all
 
 pub part_run-requires : goal.part_run-requires
 part_run-requires c =
     let s : Start = c.before.before.before.before.before.before.before.before.before.before.before.before.before.before.before.before.before.before.before.before.before.before.before.before.before.before.before.before in
-    let ready : Ready s c.staged.new.window c.places.new.rows c.places.new.firsts c.places.new.offsets c.row_width.result = record {
-      window_room = omega arith;
-      rows_room = omega (arith, s.requires.level_bound);
-      firsts_room = omega (arith, s.requires.level_bound);
-      offsets_room = omega (arith, s.requires.level_bound);
-      enough = omega arith;
-      reach_high = omega (arith, apart s, few s);
-      staged = c.staged.ensures;
-      places = c.places.ensures;
-    } in
-    let all = run s c.row_width.ensures ready in
-    let p = s.requires.level_bound in
-    (p.3, omega (arith, p.4), p.2, all.0)
+    let b = s.requires.level_bound in
+    let all = run s c.row_width.ensures (omega arith) (omega (arith, b), omega (arith, b), omega (arith, b)) c.staged.ensures (omega arith) c.places.ensures in
+    (b.3, omega (arith, b.4), b.2, all.0)
 
 pub returns : goal.returns
 returns c =
     let s : Start = c.before.before.before.before.before.before.before.before.before.before.before.before.before.before.before.before.before.before.before.before.before.before.before.before.before.before.before.before.before.before in
-    let ready : Ready s c.staged.new.window c.places.new.rows c.places.new.firsts c.places.new.offsets c.row_width.result = record {
-      window_room = omega arith;
-      rows_room = omega (arith, s.requires.level_bound);
-      firsts_room = omega (arith, s.requires.level_bound);
-      offsets_room = omega (arith, s.requires.level_bound);
-      enough = omega arith;
-      reach_high = omega (arith, apart s, few s);
-      staged = c.staged.ensures;
-      places = c.places.ensures;
-    } in
-    let all = run s c.row_width.ensures ready in
+    let b = s.requires.level_bound in
+    let all = run s c.row_width.ensures (omega arith) (omega (arith, b), omega (arith, b), omega (arith, b)) c.staged.ensures (omega arith) c.places.ensures in
     c.part_run.ensures
     ∙ ap (λ line. overwrite line (s.args.end - count s) (tabulate (count s) (λ j. run_value c.staged.new.window s.args.table.now (taps s) c.places.new.rows c.places.new.firsts c.places.new.offsets (count s - suc j))))
     (c.sample_run.ensures.1 c.if-sample_run.false)
