@@ -1,7 +1,6 @@
 -- `points::one_output` meets its contract: the steps of one output, put together. Assumes nothing.
-use borrow.Author.Rules.{rules}
 use mathlib.Core.Path.{◌≡◌, refl, ap, ◌∙◌}
-use mathlib.Core.List.{List, [], ◌∷◌}
+use mathlib.Core.List.{List, ◌∷◌, []}
 use Prim.Native.Nat.{ℕ, ◌+◌, ◌^◌, ◌≤◌, ◌<◌}
 use native.Mathlib.Omega.{arith}
 use lib.IntN.{ℤ, pos}
@@ -25,8 +24,8 @@ use Rattle.multiplies.specs.Inner.{run_values}
 use Rattle.multiplies.proofs.Multiplies.{made_high}
 use Rattle.control.proofs.Kept.{move_glide_valid, move_glide_top, move_point_valid, move_point_top}
 use Rattle.points.proofs.Points.{plan_read}
-use Rattle.points.proofs.one_output.Statement.{statement}
-use Rattle.points.proofs.one_output.Tie as tie
+use Rattle.points.proofs.one_output.Goals as goal
+use Rattle.points.proofs.one_output.Goals.{After-glide_moved-one, After-one_point-first, After-one_point-second, After-point_moved-two, After-point_plan-p, After-point_plan-q, Start}
 
 -- the steps of the code, put together
 control_is : (F : ℕ) (c : Control) {one two last : Control} → one ≡ move_glide c → two ≡ move_point F one → last ≡ move_point F two → last ≡ control_after F c 1
@@ -55,7 +54,7 @@ two_written line x y h =
     ∙ paste_more line 126 words 1 (pos 0) x (omega arith) (omega arith) refl
     ∙ paste_all line 126 words 2 refl
 
-module _ (s : tie.Start) where
+module _ (s : Start) where
   abbrev b : List ℤ
   b = s.args.book.now
 
@@ -63,7 +62,7 @@ module _ (s : tie.Start) where
   F = s.args.layout.fade
 
   fade_small : F ≤ 256
-  fade_small = omega (arith, s.pre.0.sizes.fade, (sizes_bounded b (accepted b s.pre.0.sizes.book_accepted)).fade_high)
+  fade_small = omega (arith, s.requires.0.sizes.fade, (sizes_bounded b (accepted b s.requires.0.sizes.book_accepted)).fade_high)
 
   -- a valid control whose levels lie in the store
   abbrev Ready : Control → Type 0
@@ -84,91 +83,70 @@ module _ (s : tie.Start) where
       (LayoutOf b s.args.store.now p.old s.args.layout × LayoutOf b s.args.store.now p.new s.args.layout)
       × ((p.old ≤ 4) × (p.new ≤ 4) × (p.step ≤ F) × (p.position ≤ 2 ^ 60))
 
-glide-moved-requires : tie.Need-glide-moved-requires
-glide-moved-requires c κs = search rules
-
 -- ---- the first point
-
-module _ (c : tie.After-glide-moved) where
-  abbrev start : tie.Start
+module _ (c : After-glide_moved-one) where
+  abbrev start : Start
   start = c.before
 
   abbrev control : Control
   control = start.args.c
 
-  one_is : c.glide-moved.result ≡ move_glide control
-  one_is = c.glide-moved.ensures
+  one_is : c.glide_moved-one.result ≡ move_glide control
+  one_is = c.glide_moved-one.ensures
 
-  one_ready : Ready start c.glide-moved.result
-  one_ready = glide_ready start (start.pre.1, start.pre.0) one_is
+  one_ready : Ready start c.glide_moved-one.result
+  one_ready = glide_ready start (start.requires.1, start.requires.0) one_is
 
-point-plan-requires : tie.Need-point-plan-requires
-point-plan-requires c κs = plan_small (start c) (one_ready c)
+pub point_plan-p-requires : goal.point_plan-p-requires
+point_plan-p-requires c = plan_small (start c) (one_ready c)
 
 -- what its point reads
-first_read : (c : tie.After-point-plan) → Read (start c.before) c.point-plan.result
-first_read c = let r = one_ready c.before in plan_read r.0 r.1 c.point-plan.result c.point-plan.ensures
+first_read : (c : After-point_plan-p) → Read (start c.before) c.point_plan-p.result
+first_read c = let r = one_ready c.before in plan_read r.0 r.1 c.point_plan-p.result c.point_plan-p.ensures
 
-one-point-requires : tie.Need-one-point-requires
-one-point-requires c κs = let r = first_read c in (r.0.0, r.0.1, (start c.before).pre.3, r.1.0, r.1.1, r.1.2, r.1.3)
+pub one_point-first-requires : goal.one_point-first-requires
+one_point-first-requires c = let r = first_read c in (r.0.0, r.0.1, (start c.before).requires.3, r.1.0, r.1.1, r.1.2, r.1.3)
 
-point-moved-requires : tie.Need-point-moved-requires
-point-moved-requires c κs = let o = c.before.before in plan_small (start o) (one_ready o)
+pub point_moved-two-requires : goal.point_moved-two-requires
+point_moved-two-requires c = let o = c.before.before in plan_small (start o) (one_ready o)
 
 -- ---- the second point
-
-module _ (c : tie.After-point-moved) where
-  abbrev one : tie.After-glide-moved
+module _ (c : After-point_moved-two) where
+  abbrev one : After-glide_moved-one
   one = c.before.before.before
 
-  two_is : c.point-moved.result ≡ move_point (F (start one)) one.glide-moved.result
-  two_is = c.point-moved.ensures
+  two_is : c.point_moved-two.result ≡ move_point (F (start one)) one.glide_moved-one.result
+  two_is = c.point_moved-two.ensures
 
-  two_ready : Ready (start one) c.point-moved.result
+  two_ready : Ready (start one) c.point_moved-two.result
   two_ready = point_ready (start one) (one_ready one) two_is
 
-point-plan-requires-2 : tie.Need-point-plan-requires-2
-point-plan-requires-2 c κs = plan_small (start (one c)) (two_ready c)
+pub point_plan-q-requires : goal.point_plan-q-requires
+point_plan-q-requires c = plan_small (start (one c)) (two_ready c)
 
-second-read : (c : tie.After-point-plan2) → Read (start (one c.before)) c.point-plan2.result
-second-read c = let r = two_ready c.before in plan_read r.0 r.1 c.point-plan2.result c.point-plan2.ensures
+second-read : (c : After-point_plan-q) → Read (start (one c.before)) c.point_plan-q.result
+second-read c = let r = two_ready c.before in plan_read r.0 r.1 c.point_plan-q.result c.point_plan-q.ensures
 
-one-point-requires-2 : tie.Need-one-point-requires-2
-one-point-requires-2 c κs = let r = second-read c in (r.0.0, r.0.1, (start (one c.before)).pre.3, r.1.0, r.1.1, r.1.2, r.1.3)
+pub one_point-second-requires : goal.one_point-second-requires
+one_point-second-requires c = let r = second-read c in (r.0.0, r.0.1, (start (one c.before)).requires.3, r.1.0, r.1.1, r.1.2, r.1.3)
 
 -- ---- both together
+first_fits : (c : After-one_point-first) → SFits w64 c.one_point-first.result
+first_fits c = record { sfits = c.one_point-first.type_inv }
 
-first_fits : (c : tie.After-one-point) → SFits w64 c.one-point.result
-first_fits c = record { sfits = c.one-point.type-inv }
+second_fits : (c : After-one_point-second) → SFits w64 c.one_point-second.result
+second_fits c = record { sfits = c.one_point-second.type_inv }
 
-second_fits : (c : tie.After-one-point2) → SFits w64 c.one-point2.result
-second_fits c = record { sfits = c.one-point2.type-inv }
+pub point_moved-control-requires : goal.point_moved-control-requires
+point_moved-control-requires c = let t = c.before.before in plan_small (start (one t)) (two_ready t)
 
-slice-set-from-second : tie.Need-slice-set-from-second
-slice-set-from-second c = search rules
-
-slice-set-from-first : tie.Need-slice-set-from-first
-slice-set-from-first c = search rules
-
-point-moved-requires-2 : tie.Need-point-moved-requires-2
-point-moved-requires-2 c κs = let t = c.before.before in plan_small (start (one t)) (two_ready t)
-
-values-made-requires : tie.Need-values-made-requires
-values-made-requires c κs = search rules
-
-values-made-requires-2 : tie.Need-values-made-requires-2
-values-made-requires-2 c κs = search rules
-
-add-values : tie.Need-overflow-add-values
-add-values c =
-    let first : c.before.values-made.result ≤ 2 = rw c.before.values-made.ensures (made_high _) in
-    let second : c.values-made2.result ≤ 2 = rw c.values-made2.ensures (made_high _) in
+pub overflow_add-values : goal.overflow_add-values
+overflow_add-values c =
+    let first : c.before.values_made.result ≤ 2 = rw c.before.values_made.ensures (made_high _) in
+    let second : c.values_made-2.result ≤ 2 = rw c.values_made-2.ensures (made_high _) in
     omega (arith, first, second)
 
-same_length : tie.Need-same-length
-same_length c = search rules
-
-returns : tie.Need-returns
+pub returns : goal.returns
 returns c =
     let m = c.before.before in
     let p₂ = m.before in
@@ -180,29 +158,10 @@ returns c =
     let s = start o in
     let line = s.args.line.now in
     let make = point (b s) s.args.store.now in
-    let written = two_written line p₁.one-point.result p₂.one-point2.result (omega arith) in
-    let points = points_are make (F s) s.args.c (one_is o) q₁.point-plan.ensures p₁.one-point.ensures (two_is t) q₂.point-plan2.ensures p₂.one-point2.ensures in (
+    let written = two_written line p₁.one_point-first.result p₂.one_point-second.result (omega arith) in
+    let points = points_are make (F s) s.args.c (one_is o) q₁.point_plan-p.ensures p₁.one_point-first.ensures (two_is t) q₂.point_plan-q.ensures p₂.one_point-second.ensures in (
       refl,
-      control_is (F s) s.args.c (one_is o) (two_is t) m.point-moved2.ensures,
-      values_are (F s) s.args.c (one_is o) q₁.point-plan.ensures c.before.values-made.ensures (two_is t) q₂.point-plan2.ensures c.values-made2.ensures,
+      control_is (F s) s.args.c (one_is o) (two_is t) m.point_moved-control.ensures,
+      values_are (F s) s.args.c (one_is o) q₁.point_plan-p.ensures c.before.values_made.ensures (two_is t) q₂.point_plan-q.ensures c.values_made-2.ensures,
       simp (reads, first_fits p₁, second_fits p₂) (written ∙ ap (overwrite line 126) points),
     )
-
-pub one-output-spec : {M : Type 1} → statement M
-one-output-spec =
-    tie.close
-    (tie.spec
-    glide-moved-requires
-    point-plan-requires
-    one-point-requires
-    point-moved-requires
-    point-plan-requires-2
-    one-point-requires-2
-    slice-set-from-second
-    slice-set-from-first
-    point-moved-requires-2
-    values-made-requires
-    values-made-requires-2
-    add-values
-    same_length
-    returns)

@@ -11,11 +11,10 @@ use Rattle.arith.specs.Floor.{near}
 use Rattle.arith.proofs.Bits.{reads}
 use Rattle.arith.proofs.Integers.{abs_fits, abs_triangle}
 use Rattle.arith.proofs.Linear.{linear, abs-pos-*}
-use borrow.Author.Rules.{rules}
-use Rattle.points.proofs.planned.mean.Statement.{statement}
-use Rattle.points.proofs.planned.mean.Tie as tie
+use Rattle.points.proofs.planned.mean.Goals as goal
+use Rattle.points.proofs.planned.mean.Goals.{After-near_by, Start}
 
-module _ (s : tie.Start) where
+module _ (s : Start) where
   abbrev rest : ℕ
   rest = s.args.fade - s.args.step
 
@@ -32,10 +31,10 @@ module _ (s : tie.Start) where
   fade_low = omega arith
 
   old_size : nat_abs (pos rest *ℤ s.args.old) ≤ 2 ^ 29 * rest
-  old_size = omega (arith, abs-pos-* rest s.args.old, mul-le-mul_right rest s.pre.0)
+  old_size = omega (arith, abs-pos-* rest s.args.old, mul-le-mul_right rest s.requires.0)
 
   new_size : nat_abs (pos s.args.step *ℤ s.args.new) ≤ 2 ^ 29 * s.args.step
-  new_size = omega (arith, abs-pos-* s.args.step s.args.new, mul-le-mul_right s.args.step s.pre.1)
+  new_size = omega (arith, abs-pos-* s.args.step s.args.new, mul-le-mul_right s.args.step s.requires.1)
 
   mix_size : nat_abs mix ≤ s.args.fade * 2 ^ 29
   mix_size = omega (arith, abs_triangle (pos rest *ℤ s.args.old) (pos s.args.step *ℤ s.args.new), old_size, new_size)
@@ -50,51 +49,25 @@ module _ (s : tie.Start) where
   mix_fits = abs_fits w64 mix (omega (arith, mix_size))
 
 -- the result
-module _ (c : tie.After-near-by) where
+module _ (c : After-near_by) where
   result-is : c.near_by.result ≡ near (mix c.before) c.before.args.fade
   result-is =
       let s = c.before in
-      simp (reads, rest_low s, step_low s, fade_low s, s.fits.old, s.fits.new, old_fits s, new_fits s, mix_fits s) at c.near_by.ensures
+      simp (reads, rest_low s, step_low s, fade_low s, s.ranges.old, s.ranges.new, old_fits s, new_fits s, mix_fits s) at c.near_by.ensures
 
-sub-sum : tie.Need-sub-sum
-sub-sum c = search rules
+pub overflow_mul-sum : goal.overflow_mul-sum
+overflow_mul-sum c = simp (reads, rest_low c, c.ranges.old) (old_fits c)
 
-cast-sum : tie.Need-cast-sum
-cast-sum c = search rules
+pub overflow_mul-sum-2 : goal.overflow_mul-sum-2
+overflow_mul-sum-2 c = simp (reads, step_low c, c.ranges.new) (new_fits c)
 
-mul-sum : tie.Need-mul-sum
-mul-sum c = simp (reads, rest_low c, c.fits.old) (old_fits c)
+pub overflow_add-sum : goal.overflow_add-sum
+overflow_add-sum c = simp (reads, rest_low c, step_low c, c.ranges.old, c.ranges.new, old_fits c, new_fits c) (mix_fits c)
 
-cast-sum-2 : tie.Need-cast-sum-2
-cast-sum-2 c = search rules
+pub near_by-requires : goal.near_by-requires
+near_by-requires c =
+    simp (reads, rest_low c, step_low c, fade_low c, c.ranges.old, c.ranges.new, old_fits c, new_fits c, mix_fits c)
+    (record { fact_1 = omega (arith, mix_size c); fact_2 = simp linear (omega arith); fact_3 = simp linear (omega arith) })
 
-mul-sum-2 : tie.Need-mul-sum-2
-mul-sum-2 c = simp (reads, step_low c, c.fits.new) (new_fits c)
-
-add-sum : tie.Need-add-sum
-add-sum c = simp (reads, rest_low c, step_low c, c.fits.old, c.fits.new, old_fits c, new_fits c) (mix_fits c)
-
-cast-near-by : tie.Need-cast-near-by
-cast-near-by c = search rules
-
-near-by-requires : tie.Need-near-by-requires
-near-by-requires c κs =
-    simp (reads, rest_low c, step_low c, fade_low c, c.fits.old, c.fits.new, old_fits c, new_fits c, mix_fits c)
-    (omega (arith, mix_size c), (simp linear (omega arith), simp linear (omega arith)))
-
-returns : tie.Need-returns
-returns c = let fits : SFits w64 c.near_by.result = record { sfits = c.near_by.ok } in simp (reads, fits) (result-is c)
-
-pub mean-spec : {M : Type 1} → statement M
-mean-spec =
-    tie.close
-    (tie.spec
-    sub-sum
-    cast-sum
-    mul-sum
-    cast-sum-2
-    mul-sum-2
-    add-sum
-    cast-near-by
-    near-by-requires
-    returns)
+pub returns : goal.returns
+returns c = let fits : SFits w64 c.near_by.result = record { sfits = c.near_by.type_inv } in simp (reads, fits) (result-is c)

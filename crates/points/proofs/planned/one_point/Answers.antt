@@ -1,6 +1,6 @@
 -- `points::planned::one_point` meets its contract: a point is a run of one. Assumes nothing.
 use mathlib.Core.Path.{◌≡◌, ap, ◌∙◌}
-use Prim.Native.Nat.{ℕ, ◌-◌, ◌^◌, ◌≤◌, ◌<◌}
+use Prim.Native.Nat.{ℕ, ◌^◌, ◌≤◌, ◌<◌}
 use native.Mathlib.Omega.{arith}
 use lib.IntN.{pos}
 use lib.ListN.{get_or, replicate, length-replicate}
@@ -12,46 +12,25 @@ use Rattle.positions.specs.Runs.{run_plan}
 use Rattle.points.specs.Points.{point}
 use Rattle.points.proofs.Points.{first-is}
 use Rattle.points.proofs.Lines.{newest_at}
-use borrow.Author.Rules.{rules}
-use Rattle.points.proofs.planned.one_point.Statement.{statement}
-use Rattle.points.proofs.planned.one_point.Tie as tie
+use Rattle.points.proofs.planned.one_point.Goals as goal
 
-slice-aggregate-planned-points : tie.Need-slice-aggregate-planned-points
-slice-aggregate-planned-points c = search rules
-
-slice-aggregate-planned-points-2 : tie.Need-slice-aggregate-planned-points-2
-slice-aggregate-planned-points-2 c = search rules
-
-planned-points-requires : tie.Need-planned-points-requires
-planned-points-requires c κs =
+pub planned_points-requires : goal.planned_points-requires
+planned_points-requires c =
     let s = c.before.before in
     let r = s.requires in
     let one : (i k : ℕ) → i ≤ k → k < 1 → (get_or (replicate 1 s.args.p.position) i 0 ≤ get_or (replicate 1 s.args.p.position) k 0) × (get_or (replicate 1 s.args.p.position) k 0 ≤ 2 ^ 60) = λ i k h l.
     let e : i ≡ 0 = omega arith in
     let d : k ≡ 0 = omega arith in
     rw (e, d) (omega arith, r.6) in
-    ((r.0, r.1, r.2, r.3, r.4, omega arith, omega arith), (one, λ e. omega (arith, r.5)))
+    record { layout_of = (r.0, r.1, r.2, r.3, r.4, omega arith, omega arith); by_index = (one, λ e. omega (arith, r.5)) }
 
-array-copy-out-result : tie.Need-array-copy-out-result
-array-copy-out-result c = search rules
-
-returns : tie.Need-returns
+pub returns : goal.returns
 returns c =
     let r = c.before.before in
     let s = c.before.before.before.before.before in
     let make = point s.args.book.now s.args.store.now in
-    let fits : SFits w64 (at r.planned-points.new.0 127) = record { sfits = c.result.given } in
+    let fits : SFits w64 (at r.planned_points.new.line 127) = record { sfits = c.result-1.given } in
     simp (reads, fits)
-    (ap (λ l. at l 127) r.planned-points.ensures
+    (ap (λ l. at l 127) r.planned_points.ensures
     ∙ newest_at (replicate 128 (pos 0)) (λ k. make (run_plan s.args.p k (get_or (replicate 1 s.args.p.position) k 0))) 1 0 (omega (arith, length-replicate 128 (pos 0))) (omega arith) (omega arith)
     ∙ ap make (first-is s.args.p))
-
-pub one-point-spec : {M : Type 1} → statement M
-one-point-spec =
-    tie.close
-    (tie.spec
-    slice-aggregate-planned-points
-    slice-aggregate-planned-points-2
-    planned-points-requires
-    array-copy-out-result
-    returns)

@@ -22,9 +22,8 @@ use Rattle.points.specs.Points.{point}
 use Rattle.points.specs.Runs.{run_points}
 use Rattle.points.proofs.Points.{plan_read}
 use Rattle.points.proofs.RunPoints.{run_tabulate, run_made, values_run}
-use borrow.Author.Rules.{rules}
-use Rattle.points.proofs.next_points.Statement.{statement}
-use Rattle.points.proofs.next_points.Tie as tie
+use Rattle.points.proofs.next_points.Goals as goal
+use Rattle.points.proofs.next_points.Goals.{After-run_positions-r, Start}
 
 -- one output is a run of one
 one_made : (line : List ℤ) (make : Plan → ℤ) (F : ℕ) (c : Control) {m n v : ℕ} {d : Control} {l : List ℤ} → 1 ≤ n → m ≡ 1 → d ≡ control_after F c 1 → v ≡ run_values F c 1
@@ -47,136 +46,91 @@ module _ (ps : List ℕ) (n : ℕ) (room : n ≤ length ps) where
   lent_at k h = get_or-take (n - 0) ps k 0 (omega arith)
 
 -- the run that was found
-module _ (p : tie.After-run-positions) where
-  abbrev s : tie.Start
+module _ (p : After-run_positions-r) where
+  abbrev s : Start
   s = p.before.before
 
   abbrev F : ℕ
   F = s.args.layout.fade
 
   abbrev ps : List ℕ
-  ps = p.run-positions.last.1.1.1.0
+  ps = p.run_positions-r.new.positions
 
   abbrev made : ℕ
-  made = p.run-positions.result.made
+  made = p.run_positions-r.result.made
 
   abbrev plan : Plan
-  plan = p.run-positions.result.plan
+  plan = p.run_positions-r.result.plan
 
   abbrev make : Plan → ℤ
   make = point s.args.book.now s.args.store.now
 
   room : 2 * made ≤ length ps
-  room = omega (arith, p.run-positions.ensures.0.0, p.run-positions.ensures.0.2, s.pre.4)
+  room = omega (arith, p.run_positions-r.ensures.made_le_count.0, p.run_positions-r.ensures.made_le_count.2, s.requires.4)
 
   -- what its points read of the store
   reads_are : (LayoutOf s.args.book.now s.args.store.now plan.old s.args.layout × LayoutOf s.args.book.now s.args.store.now plan.new s.args.layout)
       × ((plan.old ≤ 4) × (plan.new ≤ 4) × (plan.step ≤ F) × (plan.position ≤ 2 ^ 60))
   unfolding control_after
-  reads_are = plan_read (move_glide_valid s.pre.1) (rw (move_glide_top s.args.c) s.pre.0) plan p.run-positions.ensures.0.3
+  reads_are = plan_read (move_glide_valid s.requires.1) (rw (move_glide_top s.args.c) s.requires.0) plan p.run_positions-r.ensures.made_le_count.3
 
   values_are : 2 * made * values_made plan.step ≡ run_values F s.args.c made
   values_are =
       sym (values_run F s.args.c (values_made plan.step) made
-      (λ k h. let x = p.run-positions.ensures.1.0 k h in (ap (λ q. values_made q.step) x.0 ∙ run_made plan (2 * k) (get_or ps (2 * k) 0), ap (λ q. values_made q.step) x.1 ∙ run_made plan (2 * k + 1) (get_or ps (2 * k + 1) 0))))
+      (λ k h. let x = p.run_positions-r.ensures.plans k h in (ap (λ q. values_made q.step) x.0 ∙ run_made plan (2 * k) (get_or ps (2 * k) 0), ap (λ q. values_made q.step) x.1 ∙ run_made plan (2 * k + 1) (get_or ps (2 * k + 1) 0))))
 
   -- the points of the plans
   points_are : tabulate (2 * made) (λ j. make (run_plan plan (2 * made - suc j) (get_or (lent ps (2 * made) room) (2 * made - suc j) 0))) ≡ run_points make F s.args.c made
   points_are =
       tabulate_ext (2 * made) (λ j h. ap (λ P. make (run_plan plan (2 * made - suc j) P)) (lent_at ps (2 * made) room (2 * made - suc j) (omega arith)))
       ∙ run_tabulate make F s.args.c (λ k. make (run_plan plan k (get_or ps k 0))) made
-      (λ k h. let x = p.run-positions.ensures.1.0 k h in (ap make (sym x.0), ap make (sym x.1)))
+      (λ k h. let x = p.run_positions-r.ensures.plans k h in (ap make (sym x.0), ap make (sym x.1)))
 
-slice-aggregate-run-positions : tie.Need-slice-aggregate-run-positions
-slice-aggregate-run-positions c = search rules
-
-run-positions-requires : tie.Need-run-positions-requires
-run-positions-requires c κs =
+pub run_positions-r-requires : goal.run_positions-r-requires
+run_positions-r-requires c =
     let s = c.before in
     let o = s.requires.0.sizes in
     let f = sizes_bounded s.args.book.now (accepted _ o.book_accepted) in
     (s.requires.1, s.requires.4, omega (arith, o.fade, f.fade_low), omega (arith, o.fade, f.fade_high), refl)
 
-one-output-requires : tie.Need-one-output-requires
-one-output-requires c κs = search rules
-
-same_length : tie.Need-same-length
-same_length c = search rules
-
-returns : tie.Need-returns
-returns c =
-    let o = c.before.one-output in
+pub returns-then-made-eq0 : goal.returns-then-made-eq0
+returns-then-made-eq0 c =
+    let o = c.before.one_output in
     let s = c.before.before.before.before.before.before.before in
     let e = o.ensures in
-    one_made s.args.line.now (point s.args.book.now s.args.store.now) s.args.layout.fade s.args.c s.requires.3 e.0 e.1 e.2 e.3
+    let made = one_made s.args.line.now (point s.args.book.now s.args.store.now) s.args.layout.fade s.args.c s.requires.3 e.0 e.1 e.2 e.3 in
+    record { le_made = made.0; points = made.1 }
 
-mul-points : tie.Need-overflow-mul-points
-mul-points c = search rules
-
-sub-planned-points : tie.Need-overflow-sub-planned-points
-sub-planned-points c = search rules
-
-part-planned-points-start : tie.Need-slice-bounds-planned-points-start
-part-planned-points-start c = search rules
-
-part-planned-points-end : tie.Need-slice-bounds-planned-points-end
-part-planned-points-end c = search rules
-
-planned-points-requires : tie.Need-planned-points-requires
-planned-points-requires c κs =
-    let p = c.before.before.before.before.before.before in
+pub planned_points-requires : goal.planned_points-requires
+planned_points-requires c =
+    let p = c.before.before.before.before.before in
     let r = reads_are p in
     let l = lent_length (ps p) (2 * made p) (room p) in
-    let at = lent_at (ps p) (2 * made p) (room p) in (
-      (r.0.0, r.0.1, (s p).requires.5, r.1.0, r.1.1, omega (arith, (s p).requires.2), omega (arith, l, p.run-positions.ensures.0.0, (s p).requires.4)),
-      (
-        λ i k h m. let k-low : k < 2 * made p = omega (arith, m, l) in rw (at i (omega arith), at k k-low) (p.run-positions.ensures.1.1 i k h k-low),
-        λ n. omega (arith, l, p.run-positions.ensures.0.4 n),
-      ),
-    )
+    let at = lent_at (ps p) (2 * made p) (room p) in record {
+      layout_of = (r.0.0, r.0.1, (s p).requires.5, r.1.0, r.1.1, omega (arith, (s p).requires.2), omega (arith, l, p.run_positions-r.ensures.made_le_count.0, (s p).requires.4));
+      by_index = (
+        λ i k h m. let k-low : k < 2 * made p = omega (arith, m, l) in rw (at i (omega arith), at k k-low) (p.run_positions-r.ensures.bounds i k h k-low),
+        λ n. omega (arith, l, p.run_positions-r.ensures.made_le_count.4 n),
+      );
+    }
 
-values-made-requires : tie.Need-values-made-requires
-values-made-requires c κs = search rules
-
-mul-t27 : tie.Need-overflow-mul-t27
-mul-t27 c =
-    let p = c.before.before.before.before.before.before.before.before.before.before in
-    let two : c.values-made.result ≤ 2 = rw c.values-made.ensures (made_high _) in
-    let few : 2 * made p ≤ 128 = omega (arith, p.run-positions.ensures.0.0, (s p).requires.4) in
+pub overflow_mul-result : goal.overflow_mul-result
+overflow_mul-result c =
+    let p = c.before.before.before.before.before.before.before.before.before in
+    let two : c.values_made.result ≤ 2 = rw c.values_made.ensures (made_high _) in
+    let few : 2 * made p ≤ 128 = omega (arith, p.run_positions-r.ensures.made_le_count.0, (s p).requires.4) in
     omega (arith, mul-le-mul few two)
 
-same-length-2 : tie.Need-same-length-2
-same-length-2 c = search rules
-
-returns-2 : tie.Need-returns-2
-returns-2 c =
-    let p = c.before.before.before.before.before.before.before.before.before.before in
-    let e = p.run-positions.ensures.0 in
-    let some : 1 ≤ made p = omega (arith, c.before.before.before.before.before.before.before.before.if1.false) in
+pub returns : goal.returns
+returns c =
+    let p = c.before.before.before.before.before.before.before.before.before in
+    let e = p.run_positions-r.ensures.made_le_count in
+    let some : 1 ≤ made p = omega (arith, c.if-made-eq0.false) in
     let line = (s p).args.line.now in
     let n : ℕ = 2 * made p in
-    let q = lent (ps p) n (room p) in (
-      (some, e.0, e.1, ap (λ v. 2 * made p * v) c.values-made.ensures ∙ values_are p),
-      c.before.before.before.planned-points.ensures
+    let q = lent (ps p) n (room p) in record {
+      le_made = (some, e.0, e.1, ap (λ v. 2 * made p * v) c.values_made.ensures ∙ values_are p);
+      points = c.before.before.before.planned_points.ensures
           ∙ ap (λ m. overwrite line (128 - m) (tabulate m (λ j. make p (run_plan (plan p) (m - suc j) (get_or q (m - suc j) 0))))) (lent_length (ps p) n (room p))
-          ∙ ap (overwrite line (128 - n)) (points_are p),
-    )
-
-pub next-points-spec : {M : Type 1} → statement M
-next-points-spec =
-    tie.close
-    (tie.spec
-    slice-aggregate-run-positions
-    run-positions-requires
-    one-output-requires
-    same_length
-    returns
-    mul-points
-    sub-planned-points
-    part-planned-points-start
-    part-planned-points-end
-    planned-points-requires
-    values-made-requires
-    mul-t27
-    same-length-2
-    returns-2)
+          ∙ ap (overwrite line (128 - n)) (points_are p);
+    }
