@@ -17,7 +17,7 @@ use Rattle.book.specs.Inner.{HalfBand}
 use Rattle.pair_sums.specs.Pairs.{upper_part, lower_part, sample_part, Samples, place_of, shift, line_sum, Small}
 use Rattle.octave.specs.Octave.{level_sum}
 use Rattle.octave.specs.Inner.{BandRows}
-use Rattle.octave.proofs.PairSums.{by_parts, by_samples, lines, lines_small, suc_pred, same_tap}
+use Rattle.octave.proofs.PairSums.{by_parts, by_samples, centre_from, lines, lines_small, suc_pred, same_tap}
 
 -- ---- a sum around 0, of what is 0 at all other even places, and of sizes
 
@@ -203,7 +203,7 @@ module _ (h : List ℤ) (small : tap_sum h ≤ 32768) (narrow : at h 0 <ℤ pos 
 
   -- where the words of the centre's pair begin
   abbrev pub centre_place : ℕ
-  centre_place = Q + 103
+  centre_place = centre_from Q
 
   abbrev word : ℕ → ℕ → ℕ → ℤ
   word p j = band_word h level n (shift 1 p + 2 * j)
