@@ -7,10 +7,11 @@ use lib.Signed.{◌≤ℤ◌, ◌<ℤ◌}
 use mir.Syntax.{w16, w32}
 use mir.Val.{SFits}
 use mir.Facts.{sfits_widen}
+use Rattle.std.proofs.lemmas.Int.{ints}
 use Rattle.arith.specs.Lists.{at}
 use Rattle.arith.proofs.Bits.{reads, to_z_of_z_from}
 use Rattle.arith.proofs.Integers.{≤ℤ-or-<ℤ}
-use Rattle.arith.proofs.Linear.{linear, le_yes}
+use Rattle.arith.proofs.Linear.{linear}
 use Rattle.rows.proofs.lobe.Goals as goal
 use Rattle.rows.proofs.lobe.Goals.{After-result-1, After-result-2-1}
 
@@ -47,5 +48,5 @@ returns c e = go (≤ℤ-or-<ℤ (pos 1) (x c.before))
     go : (pos 1 ≤ℤ x c.before) ⊎ (x c.before <ℤ pos 1) → (pos 1 ≤ℤ x c.before) ⊎ (pos 1 ≤ℤ y c)
     go (inl l) = inl l
     go (inr l) =
-        let sum : pos 1 ≤ℤ (x c.before +ℤ y c) = le_yes (simp (reads, to_z_of_z_from w16, x_fits c.before, y_fits c, sum_fits c) at e) in
-        inr (simp linear (omega (arith, simp linear at sum, simp linear at l)))
+        let sum = simp (reads, to_z_of_z_from w16, x_fits c.before, y_fits c, sum_fits c) at e in
+        inr (omega (arith, ints))

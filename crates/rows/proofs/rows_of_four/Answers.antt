@@ -1,10 +1,12 @@
 -- `rows::rows_of_four` meets its contract: two rows of four words are one of eight. Assumes nothing.
 use mathlib.Core.Path.{◌≡◌, refl, subst}
-use Prim.Native.Nat.{◌*◌, ◌/◌}
+use mathlib.Core.List.{List}
+use Prim.Native.Nat.{ℕ, ◌*◌}
 use native.Mathlib.Omega.{arith}
-use lib.IntN.{pos}
+use lib.IntN.{ℤ, pos}
+use Rattle.arith.specs.Lists.{at}
 use Rattle.arith.proofs.Parts.{zeros_every}
-use Rattle.rows.specs.Rows.{narrowed, PhasesOf}
+use Rattle.rows.specs.Rows.{PhasesOf}
 use Rattle.rows.proofs.ImpulseRows.{halves}
 use Rattle.rows.proofs.rows_of_four.Goals as goal
 
@@ -30,10 +32,9 @@ spread-requires c =
     let s = c.before.before.before.before.before.before in
     (omega arith, s.requires.1.table_room, s.requires.0, s.requires.1.zeros)
 
+-- m rows of four words, where they are the halves of h rows of eight
+both : {source : ℕ → ℤ} {h m : ℕ} {words table : List ℤ} → PhasesOf source 8 8 h words → PhasesOf (at words) 4 8 m table → 2 * h ≡ m → PhasesOf source 4 8 m table
+both {source} {table = table} p t e = subst (λ m. PhasesOf source 4 8 m table) e (halves p (rw e t))
+
 pub returns : goal.returns
-returns c =
-    let s = c.before.before.before.before.before.before.before.before in
-    let a = s.args in
-    let even : 2 * (a.phases / 2) ≡ a.phases = omega arith in
-    subst (λ m. PhasesOf (narrowed a.book.now) 4 8 m c.before.spread.new.table) even
-    (halves c.before.before.before.before.before.rows_by-2.ensures (rw even c.before.spread.ensures))
+returns c = both c.rows_by-2.ensures c.spread.ensures (omega arith)
