@@ -1,5 +1,4 @@
 -- `player::Voice::order` meets its contract: a number leaves the voice, and else only its control changes. Assumes nothing.
-use borrow.Author.Rules.{rules}
 use borrow.Author.Tests.{ne_eqb}
 use mathlib.Core.List.{List}
 use mathlib.Core.Path.{◌≡◌, sym, ap, ◌∙◌}
@@ -12,8 +11,8 @@ use Rattle.control.specs.declared.Order.{Order}
 use Rattle.refusals.specs.Refusals.{levels_wrong, late_number, order_input_number, order_number, point_bound}
 use Rattle.player.specs.Calls.{answer, order_answer}
 use Rattle.refusals.proofs.Valid.{levels_right}
-use Rattle.player.proofs.Voice.order.Statement.{statement}
-use Rattle.player.proofs.Voice.order.Tie as tie
+use Rattle.player.proofs.Voice.order.Goals as goal
+use Rattle.player.proofs.Voice.order.Goals.{Else-number-ne0}
 
 -- an order without a number: T is at most 4, and the order has none of its own
 accepted : (c : Control) (bound : ℕ) (h : List ℤ) (o : Order) → order_number c bound h o ≡ 0 → (c.top ≤ 4) × (order_input_number c.top o ≡ 0)
@@ -22,27 +21,21 @@ accepted c bound h o e =
     let late = none_second (refuse 13 (levels_wrong c)) _ e in
     ((levels_right c (condition_fails 12 _ (none_first _ _ e))).0, none_second (late_number c bound h) _ late)
 
-no_number : (c : tie.Else1) → let a = c.before.before.before.before.args in order_number a.self.control point_bound a.self.history a.order ≡ 0
-no_number c = sym c.before.order_number_lem.ensures ∙ c.if1.false
+no_number : (c : Else-number-ne0) → let a = c.before.before.before.before.args in order_number a.self.control point_bound a.self.history a.order ≡ 0
+no_number c = sym c.before.order_number-number.ensures ∙ c.if-number-ne0.false
 
-order-number-requires : tie.Need-order-number-requires
-order-number-requires c κs = search rules
+pub returns-then-number-ne0 : goal.returns-then-number-ne0
+unfolding order_answer
+returns-then-number-ne0 c =
+    let v = c.before.before.before.before.args.self in
+    let e = c.before.order_number-number.ensures in
+    simp (ne_eqb _ _ (λ z. c.if-number-ne0.true (e ∙ z))) (ap (λ n. answer n v) e)
 
-returns : tie.Need-returns
+pub ordered_control-control-requires : goal.ordered_control-control-requires
+ordered_control-control-requires c = accepted _ _ _ _ (no_number c)
+
+pub returns : goal.returns
 unfolding order_answer
 returns c =
-    let v = c.before.before.before.before.args.self in
-    let e = c.before.order_number_lem.ensures in
-    simp (ne_eqb _ _ (λ z. c.if1.true (e ∙ z))) (ap (λ n. answer n v) e)
-
-ordered-control-requires : tie.Need-ordered-control-requires
-ordered-control-requires c κs = accepted _ _ _ _ (no_number c)
-
-returns-2 : tie.Need-returns-2
-unfolding order_answer
-returns-2 c =
     let h = c.before.before.before.before.before.args.self.history in
-    simp (no_number c.before) (ap (λ d. answer 0 (record { control = d; history = h })) c.ordered-control.ensures)
-
-pub order-spec : {M : Type 1} → statement M
-order-spec = tie.close (tie.spec order-number-requires returns ordered-control-requires returns-2)
+    simp (no_number c.before) (ap (λ d. answer 0 (record { control = d; history = h })) c.ordered_control-control.ensures)

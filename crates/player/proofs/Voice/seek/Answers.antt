@@ -1,0 +1,23 @@
+-- `player::Voice::seek` meets its contract: a number leaves the voice, and else only its position changes. Assumes nothing.
+use borrow.Author.Tests.{ne_eqb}
+use mathlib.Core.Path.{◌≡◌, sym, ap, ◌∙◌}
+use Rattle.control.specs.Moves.{sought}
+use Rattle.refusals.specs.Refusals.{seek_number, point_bound}
+use Rattle.player.specs.Calls.{answer, seek_answer}
+use Rattle.player.proofs.Voice.seek.Goals as goal
+use Rattle.player.proofs.Voice.seek.Goals.{Else-number-ne0}
+
+-- nothing is refused
+no_number : (c : Else-number-ne0) → let a = c.before.before.before.before.args in seek_number a.self.control point_bound a.self.history a.position ≡ 0
+no_number c = sym c.before.seek_number-number.ensures ∙ c.if-number-ne0.false
+
+pub returns-then-number-ne0 : goal.returns-then-number-ne0
+unfolding seek_answer
+returns-then-number-ne0 c =
+    let v = c.before.before.before.before.args.self in
+    let e = c.before.seek_number-number.ensures in
+    simp (ne_eqb _ _ (λ z. c.if-number-ne0.true (e ∙ z))) (ap (λ n. answer n v) e)
+
+pub returns : goal.returns
+unfolding seek_answer sought
+returns c = simp (no_number c)
