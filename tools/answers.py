@@ -98,10 +98,12 @@ def convert(crate, fn, v, text, keep):
                 if o in fields and fields[o] != fnew: report.append(f'field {o} -> {fields[o]} or {fnew}')
                 fields.setdefault(o, fnew)
             if clauses: clause_of[fnew] = clauses
+    reads_only = {o for (_, _, f, c, _) in v['places'] if f[0] and not c and re.search(r"-\d+$", f[1]) and not re.match(r"(if|loop|in|match)[-_]?", f[0]) for o in (f[0], f[0].replace('_', '-'))}
     callee_of = {f[1]: c for (_, _, f, c, _) in v['places'] if c}
     def proj(m):
         before = re.search(r"\.([A-Za-z0-9_'-]+)$", m.string[:m.start()])
         if before and before.group(1) != 'before': return m.group(0)
+        if m.group(1) in reads_only and not re.match(r"\.(given|type_inv|ok)", m.string[m.end():]): return m.group(0)
         return '.' + fields.get(m.group(1), m.group(1))
     text = re.sub(r"\.([A-Za-z][A-Za-z0-9_'-]*)", lambda m: '.' + {'type-inv': 'type_inv', 'fits': 'ranges', 'inv': 'invariant', 'ok': 'type_inv', 'left': 'false', 'taken': 'true', 'well-formed': 'well_formed'}.get(m.group(1), m.group(1)), text)
     fpat = re.compile(r"(?<=\S)\.([A-Za-z][A-Za-z0-9_'-]*)(?=[\s().,;\]\[]|$)")
@@ -255,6 +257,7 @@ def convert(crate, fn, v, text, keep):
             if first and first != arm.group(1): joined = joined.replace('.' + first + '.', '.' + arm.group(1) + '.')
             joined = re.sub(r"\." + re.escape(arm.group(1)) + r"\.keys\d+", '.' + arm.group(1) + '.is', joined)
         ans.append('\n'.join(comment + [joined]))
+    ans = retarget(ans, v)
     text_ans = '\n'.join(x.rstrip() + '\n' for x in ans)
     # which helpers do invariants use
     text_inv = '\n'.join(x.rstrip() + '\n' for x in invs)
@@ -303,6 +306,98 @@ def convert(crate, fn, v, text, keep):
         ans_out = build(body, extra, None)
     if inv_out and first_comment: inv_out = inv_out.replace(first_comment + '\n' + first_comment, first_comment)
     return inv_out, ans_out, report
+
+def retarget(ans, v):
+    """the number of .before where the place that is wanted is known: a typed abbrev, or an argument of a helper over a place"""
+    new = v['places_by_name']
+    index = {old[0]: n for old, n in zip(v['places'], new)}
+    parent = {n: index.get(old[1]) for old, n in zip(v['places'], new)}
+    goal_at = {need[1]: at[1] for need, at in zip(v['needs'], v['asked_at'])}
+    view = {n: bool(x) for n, x in zip(new, v['typed'])}
+    def steps(a, b):
+        if a == b: return 0
+        if view.get(b): return None
+        n = 1 if view.get(a) else 0
+        while a and a != b:
+            a = parent.get(a); n += 1
+        return n if a == b else None
+    P = '|'.join(sorted(map(re.escape, new), key=len, reverse=True))
+    helper = {}          # helper -> place of its first argument
+    typed = {}           # abbrev of a place: name -> (place of its argument, place that it is)
+    for b in ans:
+        m = re.search(r"^module _ \(([^\s:]+) : (" + P + r")\)", b, re.M)
+        if m:
+            for d in re.finditer(r"^  (?:abbrev )?([^\s:(){}]+) : (.*)$", b, re.M):
+                helper[d.group(1)] = m.group(2)
+                q = re.fullmatch(P, d.group(2).strip())
+                if q: typed[d.group(1)] = (m.group(2), q.group(0))
+        for d in re.finditer(r"^([^\s:(){}]+) : \(([^\s:()]+) : (" + P + r")\) → ?(.*)$", b, re.M):
+            helper[d.group(1)] = d.group(3)
+    if not helper: H = None
+    else: H = '|'.join(sorted(map(re.escape, helper), key=len, reverse=True))
+    out = []
+    for b in ans:
+        env = {}
+        m = re.search(r"^module _ \(([^\s:]+) : (" + P + r")\)", b, re.M)
+        if m: env[m.group(1)] = m.group(2)
+        m = re.search(r"^pub ([^\s:]+) : goal\.", b, re.M)
+        if m and m.group(1) in goal_at:
+            e = re.search(r"^" + re.escape(m.group(1)) + r" ([^\s=]+)", b, re.M)
+            if e: env[e.group(1)] = goal_at[m.group(1)]
+        for d in re.finditer(r"^([^\s:(){}]+) : \(([^\s:()]+) : (" + P + r")\) →", b, re.M):
+            e = re.search(r"^" + re.escape(d.group(1)) + r" ([^\s=]+)", b, re.M)
+            if e: env[e.group(1)] = d.group(3)
+        def place_of(expr):
+            e = re.fullmatch(r"([^\s.()]+)((?:\.before)*)", expr)
+            if e and e.group(1) in env:
+                a = env[e.group(1)]
+                for _ in range(e.group(2).count('.before')): a = parent.get(a)
+                return a
+            e = re.fullmatch(r"\(([^\s.()]+) [^\s()]+\)((?:\.before)*)", expr)
+            if e and e.group(1) in typed:
+                a = typed[e.group(1)][1]
+                for _ in range(e.group(2).count('.before')): a = parent.get(a)
+                return a
+            if expr in typed: return typed[expr][1]
+            return None
+        lines = b.split('\n')
+        for i, line in enumerate(lines):
+            # a typed abbrev within a module
+            m = re.match(r"^(  )(?:abbrev )?([^\s:]+) : (" + P + r")$", line)
+            if m and i + 1 < len(lines):
+                e = re.match(r"^(  " + re.escape(m.group(2)) + r" = )(\(?[^\s.()]+(?: [^\s.()]+\))?)((?:\.before)*)$", lines[i + 1])
+                if e:
+                    a = place_of(e.group(2))
+                    n = steps(a, m.group(3)) if a else None
+                    if n is not None: lines[i + 1] = e.group(1) + e.group(2) + '.before' * n
+                env[m.group(2)] = m.group(3)
+                continue
+            # let x = chain in: the place that a helper wants of it
+            for m in list(re.finditer(r"let ([^\s=:]+) = (\(?[^\s.()]+(?: [^\s.()]+\))?)((?:\.before)*) in", line)):
+                a = place_of(m.group(2))
+                if not a: continue
+                wanted = None
+                if H:
+                    rest = '\n'.join([line[m.end():]] + lines[i + 1:])
+                    for u in re.finditer(r"(?<![A-Za-z0-9_'.\-])(" + H + r") " + re.escape(m.group(1)) + r"(?![A-Za-z0-9_'.\-])", rest):
+                        n = steps(a, helper[u.group(1)])
+                        if n is not None: wanted = (n, helper[u.group(1)]); break
+                if wanted:
+                    line = line.replace(m.group(0), f"let {m.group(1)} = {m.group(2)}{'.before' * wanted[0]} in", 1)
+                    env[m.group(1)] = wanted[1]
+                else:
+                    q = place_of(m.group(2) + m.group(3))
+                    if q: env[m.group(1)] = q
+            # helper chain
+            if H:
+                def arg(m):
+                    a = place_of(m.group(2))
+                    n = steps(a, helper[m.group(1)]) if a else None
+                    return f"{m.group(1)} {m.group(2)}{'.before' * n}" if n is not None else m.group(0)
+                line = re.sub(r"(?<![A-Za-z0-9_'.\-])(" + H + r") (\(?[^\s.(),]+(?: [^\s.(),]+\))?)((?:\.before)*)(?![A-Za-z0-9_'.\-])", arg, line)
+            lines[i] = line
+        out.append('\n'.join(lines))
+    return out
 
 def uses_after(text, b): return True
 
