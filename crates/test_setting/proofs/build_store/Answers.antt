@@ -1,5 +1,4 @@
 -- `test_setting::build_store` meets its contract: the book, S and T are accepted, and the store has just the words that are written. Assumes nothing.
-use borrow.Author.Rules.{rules}
 use mathlib.Core.List.{List, append-nil}
 use mathlib.Core.Path.{◌≡◌, refl, ap, ◌∙◌}
 use Prim.Native.Nat.{suc}
@@ -18,8 +17,7 @@ use Rattle.levels.specs.Build.{build_number, build_answer}
 use Rattle.levels.proofs.Stores.{accepted_store}
 use Rattle.test_hum.specs.Hum.{sample_of, state_after, hum_samples, draw_answer}
 use Rattle.test_setting.specs.Setting.{test_book, test_recording, test_store}
-use Rattle.test_setting.proofs.build_store.Statement.{statement}
-use Rattle.test_setting.proofs.build_store.Tie as tie
+use Rattle.test_setting.proofs.build_store.Goals as goal
 
 length_recording : length test_recording ≡ 6400
 unfolding test_recording hum_samples
@@ -41,33 +39,13 @@ store_filled given e =
     let end : store_length (length test_recording) 2 ≡ length given = simp (length_recording, length_store, e) in
     accepted_store test_book test_recording given 2 none ∙ simp (end, drop-length, append-nil)
 
-draw-requires : tie.Need-draw-requires
-draw-requires c κs = search rules
-
-slice-aggregate-build : tie.Need-slice-aggregate-build
-slice-aggregate-build c = search rules
-
-build-requires : tie.Need-build-requires
-build-requires c κs = search rules
-
-same_length : tie.Need-same-length
-same_length c = search rules
-
-same-length-2 : tie.Need-same-length-2
-same-length-2 c = search rules
-
-returns : tie.Need-returns
+pub returns : goal.returns
 unfolding draw_answer test_recording
 returns c =
     let drawing = c.before.before.before.before.before.before in
     let start = drawing.before.before in
-    let drawn-is = drawing.draw.ensures ∙ ap (draw_answer 0) start.requires.0 in
+    let drawn-is = drawing.draw-state.ensures ∙ ap (draw_answer 0) start.requires.0 in
     let samples-are = ap (λ d. d.samples) drawn-is in (
       ap (λ d. d.state) drawn-is,
       ap (λ a. a.store) c.before.build.ensures ∙ ap (λ xs. (build_answer test_book xs 2 start.args.store.now).store) samples-are ∙ store_filled start.args.store.now start.requires.1,
     )
-
-pub build-store-spec : {M : Type 1} → statement M
-build-store-spec =
-    tie.close
-    (tie.spec draw-requires slice-aggregate-build build-requires same_length same-length-2 returns)
