@@ -17,7 +17,7 @@ use Rattle.book.specs.Inner.{HalfBand}
 use Rattle.pair_sums.specs.Pairs.{upper_part, lower_part, sample_part, Samples, place_of, shift, line_sum, Small}
 use Rattle.octave.specs.Octave.{level_sum}
 use Rattle.octave.specs.Inner.{BandRows}
-use Rattle.octave.proofs.PairSums.{by_parts, by_samples, centre_from, lines, lines_small, suc_pred, same_tap}
+use Rattle.octave.proofs.PairSums.{by_parts, by_samples, lines, lines_small, suc_pred, same_tap}
 
 -- ---- a sum around 0, of what is 0 at all other even places, and of sizes
 
@@ -201,25 +201,26 @@ module _ (h : List ℤ) (small : tap_sum h ≤ 32768) (narrow : at h 0 <ℤ pos 
         ap (at rows) (omega arith) ∙ w.1 ∙ limited (nat_abs (pos (2 * (2 * k + 1) + 1) -ℤ pos (2 * Q))) ∙ ap (band_tap h) e₁,
       )
 
-  -- where the words of the centre's pair begin
-  abbrev pub centre_place : ℕ
-  centre_place = centre_from Q
-
   abbrev word : ℕ → ℕ → ℕ → ℤ
   word p j = band_word h level n (shift 1 p + 2 * j)
 
   abbrev Staged : (ℤ → ℤ) → List ℤ → Type 0
   Staged f xs = (i : ℕ) → i < 2 * Q + 64 → (at xs i ≡ f (at level (begin + 2 * i))) × (at xs (104 + i) ≡ f (at level (begin + (2 * i + 1))))
 
-  module _ (xs : List ℤ) (f : ℤ → ℤ) (staged : Staged f xs) where
+  -- the centre's pairs stand from a place on: the word in front of the centre's, and the centre's
+  abbrev Centred : ℕ → (ℤ → ℤ) → List ℤ → Type 0
+  Centred place f xs =
+      (m : ℕ) → m < 64 → (at xs (place + m) ≡ f (at level (begin + (2 * (Q - 1 + m) + 1)))) × (at xs (place + m + 1) ≡ f (at level (begin + (2 * (Q + m) + 1))))
+
+  module _ (centre_place : ℕ) (xs : List ℤ) (f : ℤ → ℤ) (staged : Staged f xs) (centred : Centred centre_place f xs) where
     stand : (p j k : ℕ) → p < 4 → j < 16 → k < Q + 1
         → (at xs (place_of (centre_place + shift 1 p) (0 + shift 1 p) k + 2 * j) ≡ f (word p j (2 * k))) × (at xs (place_of (centre_place + shift 1 p) (0 + shift 1 p) k + 2 * j + 1) ≡ f (word p j (2 * k + 1)))
     unfolding place_of band_word
     stand p j zero lp lj l =
         let m : ℕ = shift 1 p + 2 * j in
         let low : m < 64 = omega arith in (
-          ap (at xs) (omega arith) ∙ (staged (Q - 1 + m) (omega arith)).1 ∙ ap (λ i. f (at level i)) (omega arith),
-          ap (at xs) (omega arith) ∙ (staged (Q + m) (omega arith)).1 ∙ ap (λ i. f (at level i)) (omega arith),
+          ap (at xs) (omega arith) ∙ (centred m low).0 ∙ ap (λ i. f (at level i)) (omega arith),
+          ap (at xs) (omega arith) ∙ (centred m low).1 ∙ ap (λ i. f (at level i)) (omega arith),
         )
     stand p j (suc k) lp lj l =
         let m : ℕ = shift 1 p + 2 * j in
@@ -242,18 +243,18 @@ module _ (h : List ℤ) (small : tap_sum h ≤ 32768) (narrow : at h 0 <ℤ pos 
         low-words p j (suc zero) = low (2 * (n + (shift 1 p + 2 * j)) + 2)
         low-words p j (suc (suc c)) = low (begin + (2 * (shift 1 p + 2 * j) + 2 * c))
 
-  module _ (p j : ℕ) (lp : p < 4) (lj : j < 16) where
-    pub band_parts : (highs lows : List ℤ) → Staged upper_part highs → Staged lower_part lows
+  module _ (centre_place p j : ℕ) (lp : p < 4) (lj : j < 16) where
+    pub band_parts : (highs lows : List ℤ) → Staged upper_part highs → Staged lower_part lows → Centred centre_place upper_part highs → Centred centre_place lower_part lows
         → pos 65536 *ℤ line_sum rows highs centre_place 0 1 (Q + 1) p j +ℤ line_sum rows lows centre_place 0 1 (Q + 1) p j ≡ level_sum h level (n + (shift 1 p + 2 * j))
-    band_parts highs lows upper lower =
-        ap₂ (λ x y. pos 65536 *ℤ x +ℤ y) (all_lines highs upper_part upper p j lp lj) (all_lines lows lower_part lower p j lp lj)
+    band_parts highs lows upper lower high_centre low_centre =
+        ap₂ (λ x y. pos 65536 *ℤ x +ℤ y) (all_lines centre_place highs upper_part upper high_centre p j lp lj) (all_lines centre_place lows lower_part lower low_centre p j lp lj)
         ∙ by_parts (2 * (Q + 1)) (band_tap h) (word p j)
         ∙ band_sum h some level n (shift 1 p + 2 * j) inside zeros
 
-    pub band_samples : (xs : List ℤ) → Samples level → Staged sample_part xs → pos 256 *ℤ line_sum rows xs centre_place 0 1 (Q + 1) p j ≡ level_sum h level (n + (shift 1 p + 2 * j))
+    pub band_samples : (xs : List ℤ) → Samples level → Staged sample_part xs → Centred centre_place sample_part xs → pos 256 *ℤ line_sum rows xs centre_place 0 1 (Q + 1) p j ≡ level_sum h level (n + (shift 1 p + 2 * j))
     unfolding band_word
-    band_samples xs samples staged =
-        ap (λ x. pos 256 *ℤ x) (all_lines xs sample_part staged p j lp lj)
+    band_samples xs samples staged centred =
+        ap (λ x. pos 256 *ℤ x) (all_lines centre_place xs sample_part staged centred p j lp lj)
         ∙ by_samples (2 * (Q + 1)) (band_tap h) (word p j) (λ c l. sample c)
         ∙ band_sum h some level n (shift 1 p + 2 * j) inside zeros
       where

@@ -28,10 +28,6 @@ use Rattle.octave.specs.Octave.{half_length, level_sum, level_word, next_level}
 use Rattle.octave.specs.Inner.{Rows}
 use Rattle.octave.proofs.Octave.{half_length_holds, length-next, at_next}
 
--- where the words of the centre's pair begin, of half-band taps
-abbrev pub centre_from : ℕ → ℕ
-centre_from half = half + 103
-
 -- ---- parts of a word
 
 module _ (x : ℤ) where

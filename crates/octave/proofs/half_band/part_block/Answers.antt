@@ -56,6 +56,19 @@ module _ (w : After-split_lower) where
       → (at lows i ≡ lower_part (at (level s) (2 * n s + 1 - 2 * (length (taps s) / 2) + 2 * i))) × (at lows (104 + i) ≡ lower_part (at (level s) (2 * n s + 1 - 2 * (length (taps s) / 2) + (2 * i + 1))))
   lower i l = let e = w.split_lower.ensures.split i (omega arith) in (e.0 ∙ ap lower_part ((here s).lent_at (2 * i) (omega (arith, (here s).lent_length))), e.1 ∙ ap lower_part ((here s).lent_at (2 * i + 1) (omega (arith, (here s).lent_length))))
 
+  -- where the centre's pairs stand
+  upper_centred : (place : ℕ) → place ≡ length (taps s) / 2 + 103 → let Q = length (taps s) / 2 in let begin = 2 * n s + 1 - 2 * Q in (m : ℕ) → m < 64
+      → (at highs (place + m) ≡ upper_part (at (level s) (begin + (2 * (Q - 1 + m) + 1)))) × (at highs (place + m + 1) ≡ upper_part (at (level s) (begin + (2 * (Q + m) + 1))))
+  upper_centred place here m l =
+      let Q = length (taps s) / 2 in
+      (ap (at highs) (omega arith) ∙ (upper (Q - 1 + m) (omega arith)).1, ap (at highs) (omega arith) ∙ (upper (Q + m) (omega arith)).1)
+
+  lower_centred : (place : ℕ) → place ≡ length (taps s) / 2 + 103 → let Q = length (taps s) / 2 in let begin = 2 * n s + 1 - 2 * Q in (m : ℕ) → m < 64
+      → (at lows (place + m) ≡ lower_part (at (level s) (begin + (2 * (Q - 1 + m) + 1)))) × (at lows (place + m + 1) ≡ lower_part (at (level s) (begin + (2 * (Q + m) + 1))))
+  lower_centred place here m l =
+      let Q = length (taps s) / 2 in
+      (ap (at lows) (omega arith) ∙ (lower (Q - 1 + m) (omega arith)).1, ap (at lows) (omega arith) ∙ (lower (Q + m) (omega arith)).1)
+
 -- the words
 module _ (r : After-part_words) where
   abbrev w : After-split_lower
@@ -72,7 +85,7 @@ module _ (r : After-part_words) where
       let m : shift 1 p + 2 * j ≡ i = omega arith in
       ap (at r.part_words.new.upper) (sym e)
       ∙ r.part_words.ensures.by_index p j lp lj
-      ∙ ap (λ z. near z 16384) (band_parts (taps s) s.requires.in_bounds.2 s.requires.in_bounds.3 s.requires.in_bounds.0 s.requires.in_bounds.4 (rows s) s.requires.in_bounds.5 (level s) (n s) s.requires.taps_len_bound.0 p j lp lj (highs w) (lows w) (upper w) (lower w) ∙ ap (λ z. level_sum (taps s) (level s) (n s + z)) m)
+      ∙ ap (λ z. near z 16384) (band_parts (taps s) s.requires.in_bounds.2 s.requires.in_bounds.3 s.requires.in_bounds.0 s.requires.in_bounds.4 (rows s) s.requires.in_bounds.5 (level s) (n s) s.requires.taps_len_bound.0 _ p j lp lj (highs w) (lows w) (upper w) (lower w) (upper_centred w _ (omega arith)) (lower_centred w _ (omega arith)) ∙ ap (λ z. level_sum (taps s) (level s) (n s + z)) m)
 
 pub split_upper-requires : goal.split_upper-requires
 split_upper-requires c = let s = c.before.before in
@@ -87,8 +100,8 @@ part_words-requires c = let w = c.before.before in
     let s = s w in record {
       pairs_bound = (omega arith, omega arith, omega arith, s.requires.high_len.2, s.requires.high_len.3);
       small = (
-        band_small (taps s) s.requires.in_bounds.2 s.requires.in_bounds.3 s.requires.in_bounds.0 s.requires.in_bounds.4 (rows s) s.requires.in_bounds.5 (level s) (n s) s.requires.taps_len_bound.0 (highs w) upper_part (upper w) 2048 (λ k. upper_small (at (level s) k) (s.requires.by_index k)),
-        band_small (taps s) s.requires.in_bounds.2 s.requires.in_bounds.3 s.requires.in_bounds.0 s.requires.in_bounds.4 (rows s) s.requires.in_bounds.5 (level s) (n s) s.requires.taps_len_bound.0 (lows w) lower_part (lower w) 32768 (λ k. lower_small (at (level s) k)),
+        band_small (taps s) s.requires.in_bounds.2 s.requires.in_bounds.3 s.requires.in_bounds.0 s.requires.in_bounds.4 (rows s) s.requires.in_bounds.5 (level s) (n s) s.requires.taps_len_bound.0 _ (highs w) upper_part (upper w) (upper_centred w _ (omega arith)) 2048 (λ k. upper_small (at (level s) k) (s.requires.by_index k)),
+        band_small (taps s) s.requires.in_bounds.2 s.requires.in_bounds.3 s.requires.in_bounds.0 s.requires.in_bounds.4 (rows s) s.requires.in_bounds.5 (level s) (n s) s.requires.taps_len_bound.0 _ (lows w) lower_part (lower w) (lower_centred w _ (omega arith)) 32768 (λ k. lower_small (at (level s) k)),
       );
     }
 

@@ -45,6 +45,13 @@ module _ (w : After-split_samples) where
       → (at highs i ≡ sample_part (at (level s) (2 * n s + 1 - 2 * (length (taps s) / 2) + 2 * i))) × (at highs (104 + i) ≡ sample_part (at (level s) (2 * n s + 1 - 2 * (length (taps s) / 2) + (2 * i + 1))))
   staged i l = let e = w.split_samples.ensures.split i (omega arith) in (e.0 ∙ ap sample_part ((here s).lent_at (2 * i) (omega (arith, (here s).lent_length))), e.1 ∙ ap sample_part ((here s).lent_at (2 * i + 1) (omega (arith, (here s).lent_length))))
 
+  -- where the centre's pairs stand
+  centred : (place : ℕ) → place ≡ length (taps s) / 2 + 103 → let Q = length (taps s) / 2 in let begin = 2 * n s + 1 - 2 * Q in (m : ℕ) → m < 64
+      → (at highs (place + m) ≡ sample_part (at (level s) (begin + (2 * (Q - 1 + m) + 1)))) × (at highs (place + m + 1) ≡ sample_part (at (level s) (begin + (2 * (Q + m) + 1))))
+  centred place here m l =
+      let Q = length (taps s) / 2 in
+      (ap (at highs) (omega arith) ∙ (staged (Q - 1 + m) (omega arith)).1, ap (at highs) (omega arith) ∙ (staged (Q + m) (omega arith)).1)
+
 -- the words
 module _ (r : After-sample_words) where
   abbrev w : After-split_samples
@@ -61,7 +68,7 @@ module _ (r : After-sample_words) where
       let m : shift 1 p + 2 * j ≡ i = omega arith in
       ap (at r.sample_words.new.upper) (sym e)
       ∙ r.sample_words.ensures.by_index p j lp lj
-      ∙ ap (λ z. near z 16384) (band_samples (taps s) s.requires.in_bounds.2 s.requires.in_bounds.3 s.requires.in_bounds.0 s.requires.in_bounds.4 (rows s) s.requires.in_bounds.5 (level s) (n s) s.requires.taps_len_bound.0 p j lp lj (highs w) s.requires.high_len.2 (staged w) ∙ ap (λ z. level_sum (taps s) (level s) (n s + z)) m)
+      ∙ ap (λ z. near z 16384) (band_samples (taps s) s.requires.in_bounds.2 s.requires.in_bounds.3 s.requires.in_bounds.0 s.requires.in_bounds.4 (rows s) s.requires.in_bounds.5 (level s) (n s) s.requires.taps_len_bound.0 _ p j lp lj (highs w) s.requires.high_len.2 (staged w) (centred w _ (omega arith)) ∙ ap (λ z. level_sum (taps s) (level s) (n s + z)) m)
 
 pub split_samples-requires : goal.split_samples-requires
 split_samples-requires c = let s = c.before.before in
@@ -70,7 +77,7 @@ split_samples-requires c = let s = c.before.before in
 pub sample_words-requires : goal.sample_words-requires
 sample_words-requires c = let w = c.before in
     let s = s w in
-    (omega arith, omega arith, omega arith, s.requires.high_len.1, band_small (taps s) s.requires.in_bounds.2 s.requires.in_bounds.3 s.requires.in_bounds.0 s.requires.in_bounds.4 (rows s) s.requires.in_bounds.5 (level s) (n s) s.requires.taps_len_bound.0 (highs w) sample_part (staged w) 32768 (λ k. sample_small (at (level s) k)))
+    (omega arith, omega arith, omega arith, s.requires.high_len.1, band_small (taps s) s.requires.in_bounds.2 s.requires.in_bounds.3 s.requires.in_bounds.0 s.requires.in_bounds.4 (rows s) s.requires.in_bounds.5 (level s) (n s) s.requires.taps_len_bound.0 _ (highs w) sample_part (staged w) (centred w _ (omega arith)) 32768 (λ k. sample_small (at (level s) k)))
 
 pub returns : goal.returns
 returns c = let r = c.before.before.before in
