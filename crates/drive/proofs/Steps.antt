@@ -59,7 +59,7 @@ pub record Steps (R : ℤ → ℤ → Type 0) {S S' : Type 0} (A : Player S) (B 
 module _ {R : ℤ → ℤ → Type 0} {S S' : Type 0} {A : Player S} {B : Player S'} {Rel : S → S' → Type 0} (steps : Steps R A B Rel) where
   outputs-kept : (s : S) (s' : S') (n : ℕ) → Rel s s' → Rel (A.after s n) (B.after s' n)
   outputs-kept s s' zero r = rw (A.after_none s, B.after_none s') r
-  outputs-kept s s' (suc n) r = rw (A.After-more s n, B.After-more s' n) (steps.output-kept (A.after s n) (B.after s' n) (outputs-kept s s' n r))
+  outputs-kept s s' (suc n) r = rw (A.after_more s n, B.after_more s' n) (steps.output-kept (A.after s n) (B.after s' n) (outputs-kept s s' n r))
 
   -- a call keeps the relation, and its samples are related: by its number, which is the same for both
   call_kept : (s : S) (s' : S') (c : Call) → Rel s s' → Rel (A.state s c) (B.state s' c) × Paired R (A.samples s c) (B.samples s' c)
@@ -90,8 +90,8 @@ module _ {R : ℤ → ℤ → Type 0} {S S' : Type 0} {A : Player S} {B : Player
 
   -- so are all samples of a list
   pub all_paired : (s : S) (s' : S') (calls : List Call) → Rel s s' → Paired R (A.all s calls) (B.all s' calls)
-  all_paired s s' [] r = rw (A.All-none s, B.All-none s') (none_paired R)
+  all_paired s s' [] r = rw (A.all_none s, B.all_none s') (none_paired R)
   all_paired s s' (c ∷ calls) r =
       let kept = call_kept s s' c r in
-      rw (A.All-more s c calls, B.All-more s' c calls)
+      rw (A.all_more s c calls, B.all_more s' c calls)
       (paired-++ R (A.samples s c) (A.all (A.state s c) calls) (B.samples s' c) (B.all (B.state s' c) calls) kept.1 (all_paired (A.state s c) (B.state s' c) calls kept.0))

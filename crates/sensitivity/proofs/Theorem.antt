@@ -8,7 +8,7 @@ use lib.IntN.{ℤ, pos, nat_abs, ◌-ℤ◌, ◌*ℤ◌}
 use lib.ListN.{length}
 use lib.Pow.{pow_mono}
 use Rattle.arith.specs.Lists.{at}
-use Rattle.arith.proofs.Linear.{linear, poly, abs-pos-*}
+use Rattle.arith.proofs.Linear.{poly, abs-pos-*}
 use Rattle.player.specs.Calls.{open_answer}
 use Rattle.drive.specs.Exact.{exact_scale, exact_fresh}
 use Rattle.drive.specs.Lists.{handed_out, exact_sums}
