@@ -122,10 +122,10 @@ sum_bound-requires c =
     let r = room (t m).before in
     (omega (arith, r, m.raise.ensures.raised.words, (t m).loop-column.invariant.2), r.0, λ k. ≤ℤ-trans ((t m).loop-column.invariant.3 k) (m.raise.ensures.raised.rise k))
 
-low : (c : After-sum_bound) → leb c.sum_bound.result 65536 ≡ true
+low : (c : After-sum_bound) {n : ℕ} → leb c.sum_bound.result n ≡ true
     → let m = c.before.before.before in
-    total (taps (e m)) (tap_bound (after m) (taps (e m))) ≤ 65536
-low c x = rw c.sum_bound.ensures at (leb-true c.sum_bound.result 65536 x)
+    total (taps (e m)) (tap_bound (after m) (taps (e m))) ≤ n
+low c {n} x = rw c.sum_bound.ensures at (leb-true c.sum_bound.result n x)
 
 pub returns : goal.returns
 returns c =

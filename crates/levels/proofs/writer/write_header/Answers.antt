@@ -64,12 +64,6 @@ module _ (c : After-loop-level) where
   all_lengths : e.loop-level.store ≡ overwrite (given e) 2 (lengths_of (S e) (T e))
   all_lengths = e.loop-level.invariant.2 ∙ paste_all (given e) 2 (lengths_of (S e) (T e)) (j e) (omega (arith, lengths_count e))
 
-  top_fits : SFits w32 (pos (T e))
-  top_fits = simp linear (omega arith)
-
-  samples_fit : SFits w32 (pos (S e))
-  samples_fit = simp linear (omega arith)
-
   both_written : set (set e.loop-level.store 1 (pos (T e))) 0 (pos (S e)) ≡ overwrite (given e) 0 (header_of (S e) (T e))
   unfolding header_of
   both_written =
@@ -94,14 +88,8 @@ loop-level-preserved c =
       simp (reads, length_low a) (written c.before),
     )
 
-pub overflow_cast-store-2 : goal.overflow_cast-store-2
-overflow_cast-store-2 c = top_fits c
-
 pub bounds-store-1 : goal.bounds-store-1
 bounds-store-1 c = omega (arith, same_length_now c.before)
-
-pub overflow_cast-store-3 : goal.overflow_cast-store-3
-overflow_cast-store-3 c = samples_fit c
 
 pub bounds-store-0 : goal.bounds-store-0
 bounds-store-0 c = simp length-set (omega (arith, same_length_now c.before))
