@@ -1,14 +1,11 @@
 -- `recorded_drives::rates::rate_of` meets its contract: bits that, without their sign, are at most infinity's are no NaN's, and all others
 -- are. Assumes nothing.
-use mathlib.Core.Path.{◌≡◌, refl, sym, subst, ◌∙◌}
-use Prim.Native.Nat.{ℕ, ◌%◌, ◌<◌}
-use lib.Dec.{T, lt→ltb}
+use Rattle.std.proofs.Common.{◌≡◌, ℕ, ◌%◌, ◌<◌, T, refl, sym, subst, ◌∙◌}
+use lib.Dec.{lt→ltb}
 use lib.Ieee.{Float, nan, inf, fin, binary32, div, is_nan, of_bits}
 use lib.Ieee.Bits.{nan_bits_is, nan_bits_above}
-use borrow.Author.Rules.{rules}
 use borrow.Author.Tests.{le-ltb}
-use Rattle.recorded_drives.proofs.rates.rate_of.Statement.{statement}
-use Rattle.recorded_drives.proofs.rates.rate_of.Tie as tie
+use Rattle.recorded_drives.proofs.rates.rate_of.Goals as goal
 
 is_nan_lem : (x : Float) → T (is_nan x) → nan ≡ x
 unfolding is_nan
@@ -19,15 +16,9 @@ is_nan_lem (fin s m e) t = absurd t
 above_infinity : (n : ℕ) → 2139095040 < n % 2147483648 → nan ≡ of_bits binary32 n
 above_infinity n h = is_nan_lem _ (subst T (sym (nan_bits_above binary32 n) ∙ nan_bits_is binary32 n) (lt→ltb _ _ h))
 
-float-from-bits-result : tie.Need-float-from-bits-result
-float-from-bits-result c = simp (nan_bits_above, le-ltb _ _ c.if1.true) tt
+pub float_from_bits-result : goal.float_from_bits-result
+float_from_bits-result c = simp (nan_bits_above, le-ltb _ _ c.if-bits-le2139095040.true) tt
 
-returns : tie.Need-returns
-returns c = search rules
-
-returns-2 : tie.Need-returns-2
+pub returns : goal.returns
 unfolding div of_bits
-returns-2 c = above_infinity _ c.if1.false
-
-pub rate-of-spec : {M : Type 1} → statement M
-rate-of-spec = tie.close (tie.spec float-from-bits-result returns returns-2)
+returns c = above_infinity _ c.if-bits-le2139095040.false
