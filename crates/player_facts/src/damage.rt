@@ -80,6 +80,14 @@ fn control_with(c: Control, field: u32, x: u64) -> Control {
     d
 }
 
+// The same voice once more.
+pub fn copied(v: &Voice) -> Voice {
+    Voice {
+        control: v.control,
+        history: v.history,
+    }
+}
+
 // The voice with a field set to x; POINT is the oldest point.
 pub fn with(v: Voice, field: u32, x: u64) -> Voice {
     let c = v.control;
@@ -119,7 +127,7 @@ fn same_history(g: [i32; 81], h: [i32; 81]) -> bool {
     true
 }
 
-pub fn same(a: Voice, b: Voice) -> bool {
+pub fn same(a: &Voice, b: &Voice) -> bool {
     let c = a.control;
     let d = b.control;
     let g = a.history;

@@ -42,9 +42,9 @@ const LOUD: u64 = 536870913;
 fn number(
     out: &mut impl Write,
     label: &str,
-    given: Voice,
+    given: &Voice,
     number: u32,
-    v: Voice,
+    v: &Voice,
 ) -> io::Result<()> {
     let after = if damage::same(given, v) {
         "kept"
@@ -54,9 +54,9 @@ fn number(
     write!(out, "{label} {number} {after}")
 }
 
-fn line(out: &mut impl Write, label: &str, given: Voice, a: Answer) -> io::Result<()> {
+fn line(out: &mut impl Write, label: &str, given: &Voice, a: Answer) -> io::Result<()> {
     let v = a.voice;
-    number(out, label, given, a.number, v)?;
+    number(out, label, given, a.number, &v)?;
     print::end_line(out)
 }
 
@@ -121,7 +121,7 @@ fn glide(out: &mut impl Write) -> io::Result<()> {
 }
 
 // The rate of a voice, and its current level: in a fade the old one.
-fn rate_and_level(out: &mut impl Write, v: Voice) -> io::Result<()> {
+fn rate_and_level(out: &mut impl Write, v: &Voice) -> io::Result<()> {
     let c = v.control;
     let f = c.fade;
     write!(out, " {} {}", c.rate, f.from)
@@ -131,7 +131,7 @@ fn rate_and_level(out: &mut impl Write, v: Voice) -> io::Result<()> {
 fn level_after(out: &mut impl Write, v: Voice, book: &[i32]) -> io::Result<Voice> {
     let mut block = [0i16; 1];
     let w = v.play(book, &SILENT_4, &mut block).voice;
-    rate_and_level(out, w)?;
+    rate_and_level(out, &w)?;
     Ok(w)
 }
 
@@ -180,14 +180,13 @@ fn level_at(out: &mut impl Write, v: Voice, rate: f32) -> io::Result<Voice> {
 
 // A level's band: opened at its end, and from the level itself to that end, just below it and back, and to the lowest rate.
 fn band(out: &mut impl Write, label: &str, octave: f32, end: f32, below: f32) -> io::Result<()> {
-    let v = high(octave);
     write!(out, "{label}")?;
-    rate_and_level(out, high(end))?;
-    rate_and_level(out, v)?;
-    let w = level_at(out, v, end)?;
+    rate_and_level(out, &high(end))?;
+    rate_and_level(out, &high(octave))?;
+    let w = level_at(out, high(octave), end)?;
     let w = level_at(out, w, below)?;
     level_at(out, w, end)?;
-    level_at(out, v, 0.0625)?;
+    level_at(out, high(octave), 0.0625)?;
     print::end_line(out)
 }
 
@@ -219,7 +218,7 @@ fn counts(out: &mut impl Write, label: &str, book: &[i32]) -> io::Result<()> {
     let v = two_counts(out, fresh(), book)?
         .order(Order::Jump(2.0))
         .voice;
-    let w = two_counts(out, v, book)?;
+    let w = two_counts(out, damage::copied(&v), book)?;
     two_counts(out, w, book)?;
     print::next_decimal(out, v.play(book, &SILENT, &mut block).multiplies)?;
     print::end_line(out)
@@ -233,61 +232,71 @@ fn all_counts(out: &mut impl Write) -> io::Result<()> {
     counts(out, "multiplies, N 12, B 3", &TWELVE)
 }
 
-fn jumped(out: &mut impl Write, label: &str, v: Voice, rate: f32) -> io::Result<()> {
-    line(out, label, v, v.order(Order::Jump(rate)))
+fn jumped(out: &mut impl Write, label: &str, v: &Voice, rate: f32) -> io::Result<()> {
+    line(out, label, v, damage::copied(v).order(Order::Jump(rate)))
 }
 
-fn glided(out: &mut impl Write, label: &str, v: Voice, target: f32, count: u32) -> io::Result<()> {
-    line(out, label, v, v.order(Order::Glide { target, count }))
+fn glided(out: &mut impl Write, label: &str, v: &Voice, target: f32, count: u32) -> io::Result<()> {
+    line(
+        out,
+        label,
+        v,
+        damage::copied(v).order(Order::Glide { target, count }),
+    )
 }
 
-fn sought(out: &mut impl Write, label: &str, v: Voice, position: u64) -> io::Result<()> {
-    line(out, label, v, v.seek(position))
+fn sought(out: &mut impl Write, label: &str, v: &Voice, position: u64) -> io::Result<()> {
+    line(out, label, v, damage::copied(v).seek(position))
 }
 
 fn played(
     out: &mut impl Write,
     label: &str,
-    v: Voice,
+    v: &Voice,
     book: &[i32],
     store: &[i32],
     block: &mut [i16],
 ) -> io::Result<()> {
-    let a = v.play(book, store, block);
+    let a = damage::copied(v).play(book, store, block);
     let w = a.voice;
-    number(out, label, v, a.number, w)?;
+    number(out, label, v, a.number, &w)?;
     print::next_decimal(out, a.multiplies)?;
     print::end_line(out)
 }
 
 fn orders(out: &mut impl Write) -> io::Result<()> {
     let v = fresh();
-    jumped(out, "jump 2", v, 2.0)?;
-    jumped(out, "jump 4", v, 4.0)?;
-    glided(out, "glide c 0", v, 2.0, 0)?;
-    glided(out, "glide c 65536", v, 2.0, 65536)?;
-    glided(out, "glide c 65537", v, 2.0, 65537)?;
-    glided(out, "glide 4 c 0", v, 4.0, 0)?;
+    jumped(out, "jump 2", &v, 2.0)?;
+    jumped(out, "jump 4", &v, 4.0)?;
+    glided(out, "glide c 0", &v, 2.0, 0)?;
+    glided(out, "glide c 65536", &v, 2.0, 65536)?;
+    glided(out, "glide c 65537", &v, 2.0, 65537)?;
+    glided(out, "glide 4 c 0", &v, 4.0, 0)?;
     glided(
         out,
         "glide 4, P",
-        damage::with(v, damage::POSITION, FAR),
+        &damage::with(fresh(), damage::POSITION, FAR),
         4.0,
         0,
     )?;
-    jumped(out, "jump 2, i", damage::with(v, damage::STEP, 7), 2.0)
+    jumped(
+        out,
+        "jump 2, i",
+        &damage::with(fresh(), damage::STEP, 7),
+        2.0,
+    )
 }
 
 fn seeks(out: &mut impl Write) -> io::Result<()> {
     let v = fresh();
-    sought(out, "seek 2^60", v, FAR - 1)?;
-    sought(out, "seek 2^60 + 1", v, FAR)?;
-    let loud = damage::with(v, damage::POINT, LOUD);
-    sought(out, "seek 2^60 + 1, point", loud, FAR)
+    sought(out, "seek 2^60", &v, FAR - 1)?;
+    sought(out, "seek 2^60 + 1", &v, FAR)?;
+    let loud = damage::with(fresh(), damage::POINT, LOUD);
+    sought(out, "seek 2^60 + 1, point", &loud, FAR)
 }
 
 // Each state, in an order, a seek and a play.
-fn state(out: &mut impl Write, label: &str, v: Voice) -> io::Result<()> {
+fn state(out: &mut impl Write, label: &str, v: &Voice) -> io::Result<()> {
     let mut block = [7i16; 2];
     jumped(out, label, v, 1.5)?;
     sought(out, label, v, 5)?;
@@ -296,7 +305,7 @@ fn state(out: &mut impl Write, label: &str, v: Voice) -> io::Result<()> {
 
 // A fresh voice with a field changed.
 fn damaged(out: &mut impl Write, label: &str, field: u32, x: u64) -> io::Result<()> {
-    state(out, label, damage::with(fresh(), field, x))
+    state(out, label, &damage::with(fresh(), field, x))
 }
 
 // A fresh voice with two fields changed.
@@ -309,12 +318,12 @@ fn damaged_twice(
     y: u64,
 ) -> io::Result<()> {
     let v = damage::with(fresh(), field, x);
-    state(out, label, damage::with(v, other, y))
+    state(out, label, &damage::with(v, other, y))
 }
 
 // A voice in a glide with a field changed.
 fn damaged_glide(out: &mut impl Write, label: &str, field: u32, x: u64) -> io::Result<()> {
-    state(out, label, damage::with(gliding(1.5, 9), field, x))
+    state(out, label, &damage::with(gliding(1.5, 9), field, x))
 }
 
 fn fades(out: &mut impl Write) -> io::Result<()> {
@@ -362,7 +371,7 @@ fn lent(
     store: &[i32],
 ) -> io::Result<()> {
     let mut block = [7i16; 2];
-    played(out, label, v, book, store, &mut block)?;
+    played(out, label, &v, book, store, &mut block)?;
     print::samples(out, &block)
 }
 
@@ -482,7 +491,7 @@ fn mixed(out: &mut impl Write) -> io::Result<()> {
 // A play of no outputs leaves the voice as it was.
 fn no_outputs(out: &mut impl Write) -> io::Result<()> {
     let mut block = [7i16; 1];
-    played(out, "play 0", fresh(), &K, &SILENT, &mut block[..0])
+    played(out, "play 0", &fresh(), &K, &SILENT, &mut block[..0])
 }
 
 fn main(rt: HostRuntime) -> io::Result<()> {
@@ -495,7 +504,7 @@ fn main(rt: HostRuntime) -> io::Result<()> {
     all_counts(&mut out)?;
     orders(&mut out)?;
     seeks(&mut out)?;
-    state(&mut out, "fresh", fresh())?;
+    state(&mut out, "fresh", &fresh())?;
     fades(&mut out)?;
     rates(&mut out)?;
     places(&mut out)?;
