@@ -6,9 +6,8 @@ use mathlib.Core.List.{List, [], ◌∷◌}
 use mathlib.Core.Path.{◌≡◌, refl}
 use Prim.Native.Nat.{ℕ, zero, suc, ◌*◌, ◌^◌, ◌≤◌}
 use native.Mathlib.Omega.{arith}
-use lib.Ieee.{binary32, of_bits}
+use lib.Ieee.{of_bits}
 use lib.IntN.{ℤ, pos, negsuc, nat_abs, ◌-ℤ◌}
-use lib.ListN.{replicate}
 use Rattle.arith.specs.Floor.{floor_div, even_of, nearest, near}
 use Rattle.arith.specs.Lists.{at, word_at, tabulate}
 use Rattle.arith.specs.Sum.{sum, total, sum_around}
@@ -22,8 +21,6 @@ use Rattle.store.specs.Store.{header_of, sample_count, top_level, store_level}
 use Rattle.store.specs.Check.{lengths_right, store_number}
 use Rattle.levels.specs.Levels.{first_level, level_of, levels_of}
 use Rattle.levels.specs.Build.{built_store}
-use Rattle.control.specs.declared.Card.{Card}
-use Rattle.control.specs.declared.Order.TheVariants.{Jump}
 use Rattle.control.specs.Rate.{rate_in_range, rate_of, octave_level, asked_level, advance}
 use Rattle.control.specs.Moves.{fresh_control, jumped, sought, glide_after, move_glide, fade_target, point_plan, fade_after, move_point, move_output}
 use Rattle.control.specs.Orders.{ordered}
@@ -34,35 +31,12 @@ use Rattle.player.specs.Outputs.{push, push_two, next_voice, voice_after, output
 use Rattle.decimation.specs.Decimation.{output_sum, output}
 use Rattle.refusals.specs.Refusals.{output_count_wrong, position_wrong, levels_wrong, top_wrong, levels_number, fade_wrong, rate_wrong, glide_wrong, history_wrong, late_number, open_number, order_input_number, order_number, seek_number, play_state_number, play_number}
 use Rattle.player.specs.Calls.{zero_voice, fresh_voice, open_answer, order_answer, seek_answer, play_answer}
-use Rattle.drive.specs.Lists.{Call, order, seek, play, call_voice, call_samples, handed_out}
+use Rattle.drive.specs.Lists.{call_voice, call_samples, handed_out}
 use Rattle.drive.specs.Demand.{Setting, store_of}
 use Rattle.drive.proofs.Settings.{at_every_place}
 use Rattle.sensitivity.specs.Sensitivity.{Differ, Moved}
 use Rattle.sensitivity.proofs.Theorem.{sensitivity}
-
--- N 4, M 1, A and B 0, F 1: phase 0 adds up to 65536, and each tap list to 32768
-abbrev pub book : List ℤ
-book = pos 4 ∷ pos 1 ∷ pos 0 ∷ pos 0 ∷ pos 1 ∷ pos 0 ∷ negsuc 32767 ∷ negsuc 32767 ∷ pos 0 ∷ negsuc 32767 ∷ pos 0 ∷ pos 32768 ∷ pos 0 ∷ negsuc 32767 ∷ negsuc 32767 ∷ []
-
-abbrev pub old : List ℤ
-old = pos 10 ∷ pos 20 ∷ pos 30 ∷ pos 40 ∷ pos 50 ∷ pos 60 ∷ []
-
-abbrev pub new : List ℤ
-new = pos 110 ∷ pos 20 ∷ pos 130 ∷ pos 40 ∷ pos 150 ∷ pos 60 ∷ []
-
-abbrev pub card : Card
-card = record { rate = of_bits binary32 0x4000_0000; top = 1 }
-
--- other words after the levels of each store
-abbrev pub rest : List ℤ
-rest = pos 9 ∷ negsuc 8 ∷ []
-
-abbrev pub rest' : List ℤ
-rest' = pos 1 ∷ []
-
--- two outputs, a jump to rate 4, which T 1 refuses, one more, a seek to the start and one output
-abbrev pub calls : List Call
-calls = play (replicate 2 (pos 0)) ∷ order (Jump (of_bits binary32 0x4080_0000)) ∷ play (pos 7 ∷ []) ∷ seek 0 ∷ play (pos 0 ∷ []) ∷ []
+use Rattle.sensitivity.proofs.Inputs.{book, old, new, card, rest, rest', calls}
 
 old_fits : (k : ℕ) → within (negsuc 32767) (pos 32767) (at old k) ≡ true
 unfolding every

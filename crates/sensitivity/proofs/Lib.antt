@@ -1,3 +1,5 @@
+pub mod Apart
 pub mod Sums
 pub mod Theorem
+pub mod Inputs
 pub mod Instance

@@ -27,14 +27,11 @@ use Rattle.drive.proofs.Alike.{Alike, Made, fresh_alike, order_number_same, seek
 use Rattle.drive.proofs.Players.{exact}
 use Rattle.drive.proofs.Steps.{Paired, Steps, all_paired}
 use Rattle.sensitivity.specs.Sensitivity.{Differ}
+use Rattle.sensitivity.proofs.Apart.{SumsApart}
 
 -- the laws of drive speak of c times one number and d times another: here both once
 once : (x y : ℤ) → pos 1 *ℤ x -ℤ pos 1 *ℤ y ≡ x -ℤ y
 once x y = simp linear (omega arith)
-
--- two exact sums at the distance that is asked for, over their scale
-abbrev pub SumsApart : ℕ → ℕ → ℕ → ℤ → ℤ → Type 0
-SumsApart T D scale x y = nat_abs (x -ℤ y) ≤ 8 * 2 ^ T * D * scale
 
 module _ (b old new : List ℤ) (card : Card) (D : ℕ) (s : Setting b old card) (s' : Setting b new card) (differ : Differ D old new) where
   abbrev T : ℕ

@@ -18,7 +18,8 @@ use Rattle.drive.proofs.Settings.{scale_pos}
 use Rattle.drive.proofs.Steps.{Paired}
 use Rattle.drive.proofs.Theorem.{demand3}
 use Rattle.sensitivity.specs.Sensitivity.{movement, Moved, Sensitivity}
-use Rattle.sensitivity.proofs.Sums.{SumsApart, sums_apart}
+use Rattle.sensitivity.proofs.Apart.{SumsApart}
+use Rattle.sensitivity.proofs.Sums.{sums_apart}
 
 -- a common factor of two numbers cancels
 cancel : (s p q : ℕ) → 0 < s → p * s ≤ q * s → p ≤ q
