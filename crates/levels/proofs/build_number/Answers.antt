@@ -1,5 +1,7 @@
 -- `levels::build_number` meets its contract: the book's number, then 8, then 9. Assumes nothing.
 use mathlib.Core.Path.{◌≡◌, sym, ◌∙◌}
+use Prim.Native.Nat.{◌≤◌}
+use native.Mathlib.Omega.{arith}
 use Rattle.arith.proofs.Tests.{tests}
 use Rattle.book.specs.Number.{refuse, ◌otherwise◌}
 use Rattle.book.specs.Check.{book_number}
@@ -31,8 +33,16 @@ returns-then-top-gt4 c = search (tests, ranges, no_number c.before.before.before
 
 pub returns-then-words-store_length : goal.returns-then-words-store_length
 unfolding build_number refuse ◌otherwise◌
-returns-then-words-store_length c = search (tests, ranges, no_number c.before.before.before.before.before, sym c.before.store_length.ensures)
+returns-then-words-store_length c =
+    let least : 1 ≤ c.args.recorded = omega arith in
+    let most : c.args.recorded ≤ 1048576 = omega arith in
+    let top : c.args.top ≤ 4 = omega arith in
+    search (tests, ranges, least, most, top, no_number c.before.before.before.before.before, sym c.before.store_length.ensures)
 
 pub returns : goal.returns
 unfolding build_number refuse ◌otherwise◌
-returns c = search (tests, ranges, no_number c.before.before.before.before.before, sym c.before.store_length.ensures)
+returns c =
+    let least : 1 ≤ c.args.recorded = omega arith in
+    let most : c.args.recorded ≤ 1048576 = omega arith in
+    let top : c.args.top ≤ 4 = omega arith in
+    search (tests, ranges, least, most, top, no_number c.before.before.before.before.before, sym c.before.store_length.ensures)
