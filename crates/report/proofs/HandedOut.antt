@@ -20,7 +20,7 @@ use Rattle.drive_text.specs.declared.Line.{Line}
 use Rattle.drive_text.specs.declared.Line.TheVariants.{Jump, Glide, Seek, Play, Other}
 use Rattle.drive_text.specs.Calls.{line_of}
 use Rattle.report.specs.Printed.{Printed, plays_of, outputs_of, sum}
-use Rattle.report.specs.Report.{rate, Reported, reported, after_answer, after_play, line_report, lines_report}
+use Rattle.report.specs.Report.{rate, Reported, after_answer, after_play, line_report, lines_report}
 use Rattle.report.specs.Whole.{calls_of, all_calls, OutputsHandedOut}
 
 pub sum-+ : (of : Printed → ℕ) (ps qs : List Printed) → sum of (ps ++ qs) ≡ sum of ps + sum of qs

@@ -133,7 +133,11 @@ impl Drive {
         requires count_bound { count ≤ 4096 }
         ensures { Tells self (drive_line book.now store.now self (Play count)) at text.old result text.new }
     {
-        let voice = self.voice;
+        let history = self.voice.history;
+        let voice = Voice {
+            control: self.voice.control,
+            history,
+        };
         let answer = play_outputs(voice, book, store, count);
         self.after_play(answer, count, text, at)
     }
@@ -143,7 +147,11 @@ impl Drive {
         requires { at + 96 ≤ length text.old }
         ensures { Tells self (after_answer self.voice (order_answer self.voice order)) at text.old result text.new }
     {
-        let voice = self.voice;
+        let history = self.voice.history;
+        let voice = Voice {
+            control: self.voice.control,
+            history,
+        };
         let answer = voice.order(order);
         self.after_answer(answer, text, at)
     }
@@ -152,7 +160,11 @@ impl Drive {
         requires { at + 96 ≤ length text.old }
         ensures { Tells self (after_answer self.voice (seek_answer self.voice position)) at text.old result text.new }
     {
-        let voice = self.voice;
+        let history = self.voice.history;
+        let voice = Voice {
+            control: self.voice.control,
+            history,
+        };
         let answer = voice.seek(position);
         self.after_answer(answer, text, at)
     }

@@ -1,8 +1,7 @@
 // The bytes of the input: lines may be cut anywhere between two pieces.
 
 ghost use Rattle.std.specs.Prelude.{◌≡◌, ◌+◌, ◌*◌, ◌≤◌, length, take};
-ghost use Rattle.io.specs.Counts.{IsPrefixLen};
-ghost use Rattle.report.specs.Inner.{step_of, behind, fresh_report, end_line, read_byte, read_bytes, read_piece, last_line, end_text};
+ghost use Rattle.report.specs.Inner.{IsPrefixLen, step_of, behind, fresh_report, end_line, read_byte, read_bytes, read_piece, last_line, end_text};
 
 use crate::lines::total_line;
 use crate::{Drive, PIECE_BYTES, Piece, Report, TEXT_BYTES};
