@@ -139,7 +139,11 @@ fn code(tokens: &[String]) -> Option<Vec<String>> {
     let mut depth = 0; // of the brackets around a parameter's type
     loop {
         match tokens.get(place)?.as_str() {
-            "requires" | "ensures" => place += 1 + block_length(&tokens[place + 1..])?,
+            // a clause's name may stand before its braces
+            "requires" | "ensures" => {
+                place += tokens[place..].iter().position(|token| token == "{")?;
+                place += block_length(&tokens[place..])?;
+            }
             "{" => {
                 let body = &tokens[place..place + block_length(&tokens[place..])?];
                 code.extend_from_slice(body);
