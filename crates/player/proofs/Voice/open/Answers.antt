@@ -1,5 +1,6 @@
 -- `player::Voice::open` meets its contract: a number leaves the zero record, and else the voice rests at the card's rate. Assumes
 -- nothing.
+use borrow.Author.Rules.{rules}
 use borrow.Author.Tests.{ne_eqb}
 use mathlib.Core.Path.{◌≡◌, sym, ap, ap₂, ◌∙◌}
 use Rattle.control.specs.Rate.{octave_level}
@@ -26,6 +27,9 @@ pub scaled_rate-rate-requires : goal.scaled_rate-rate-requires
 scaled_rate-rate-requires c =
     let card = c.before.before.args.card in
     rate_wider _ _ 4 (open_top card (no_number c)) (open_rate card (no_number c))
+
+pub octave_level-requires : goal.octave_level-requires
+octave_level-requires c = search rules
 
 pub returns : goal.returns
 unfolding open_answer fresh_voice fresh_control resting_voice

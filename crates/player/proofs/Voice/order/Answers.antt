@@ -12,7 +12,6 @@ use Rattle.refusals.specs.Refusals.{levels_wrong, late_number, order_input_numbe
 use Rattle.player.specs.Calls.{answer, order_answer}
 use Rattle.refusals.proofs.Valid.{levels_right}
 use Rattle.player.proofs.Voice.order.Goals as goal
-use Rattle.player.proofs.Voice.order.Goals.{Else-number-ne0}
 
 -- an order without a number: T is at most 4, and the order has none of its own
 accepted : (c : Control) (bound : ℕ) (h : List ℤ) (o : Order) → order_number c bound h o ≡ 0 → (c.top ≤ 4) × (order_input_number c.top o ≡ 0)
@@ -20,9 +19,6 @@ unfolding order_number
 accepted c bound h o e =
     let late = none_second (refuse 13 (levels_wrong c)) _ e in
     ((levels_right c (condition_fails 12 _ (none_first _ _ e))).0, none_second (late_number c bound h) _ late)
-
-no_number : (c : Else-number-ne0) → let a = c.before.before.before.before.args in order_number a.self.control point_bound a.self.history a.order ≡ 0
-no_number c = sym c.before.order_number-number.ensures ∙ c.if-number-ne0.false
 
 pub returns-then-number-ne0 : goal.returns-then-number-ne0
 unfolding order_answer
@@ -32,10 +28,14 @@ returns-then-number-ne0 c =
     simp (ne_eqb _ _ (λ z. c.if-number-ne0.true (e ∙ z))) (ap (λ n. answer n v) e)
 
 pub ordered_control-control-requires : goal.ordered_control-control-requires
-ordered_control-control-requires c = accepted _ _ _ _ (no_number c)
+ordered_control-control-requires c =
+    let a = c.args in
+    let none : order_number a.self.control point_bound a.self.history a.order ≡ 0 = sym c.order_number-number.ensures ∙ c.if-number-ne0.false in
+    accepted _ _ _ _ none
 
 pub returns : goal.returns
 unfolding order_answer
 returns c =
-    let h = c.before.before.before.before.before.args.self.history in
-    simp (no_number c.before) (ap (λ d. answer 0 (record { control = d; history = h })) c.ordered_control-control.ensures)
+    let a = c.args in
+    let none : order_number a.self.control point_bound a.self.history a.order ≡ 0 = sym c.order_number-number.ensures ∙ c.if-number-ne0.false in
+    simp none (ap (λ d. answer 0 (record { control = d; history = a.self.history })) c.ordered_control-control.ensures)

@@ -5,11 +5,6 @@ use Rattle.control.specs.Moves.{sought}
 use Rattle.refusals.specs.Refusals.{seek_number, point_bound}
 use Rattle.player.specs.Calls.{answer, seek_answer}
 use Rattle.player.proofs.Voice.seek.Goals as goal
-use Rattle.player.proofs.Voice.seek.Goals.{Else-number-ne0}
-
--- nothing is refused
-no_number : (c : Else-number-ne0) → let a = c.before.before.before.before.args in seek_number a.self.control point_bound a.self.history a.position ≡ 0
-no_number c = sym c.before.seek_number-number.ensures ∙ c.if-number-ne0.false
 
 pub returns-then-number-ne0 : goal.returns-then-number-ne0
 unfolding seek_answer
@@ -20,4 +15,7 @@ returns-then-number-ne0 c =
 
 pub returns : goal.returns
 unfolding seek_answer sought
-returns c = simp (no_number c)
+returns c =
+    let a = c.args in
+    let none : seek_number a.self.control point_bound a.self.history a.position ≡ 0 = sym c.seek_number-number.ensures ∙ c.if-number-ne0.false in
+    simp none
