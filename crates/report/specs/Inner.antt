@@ -85,12 +85,12 @@ pub record Step : Type 0 where
 abbrev pub step_of : Piece → List ℕ → Step
 step_of p text = record { report = p.report; text = take p.count text }
 
+abbrev pub behind : List ℕ → Step → Step
+behind text s = record { report = s.report; text = text ++ s.text }
+
 -- the first n bytes of a slice lie in it, and are n
 abbrev pub IsPrefixLen : ℕ → List ℕ → Type 0
 IsPrefixLen n xs = (n ≤ length xs) × (n ≡ length (take n xs))
-
-abbrev pub behind : List ℕ → Step → Step
-behind text s = record { report = s.report; text = text ++ s.text }
 
 module _ (b store : List ℤ) where
   -- what a line prints after a drive

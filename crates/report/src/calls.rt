@@ -105,6 +105,7 @@ impl Drive {
     }
 
     // After a play of `count` outputs.
+    #[tactic(auto, unfolding(crate::specs::Report::after_play))]
     fn after_play(self, answer: PlayAnswer, count: usize, text: &mut [u8], at: usize) -> Told
         requires { at + 96 ≤ length text.old }
         ensures { Tells self (after_play self.voice self.plays (with_words answer count)) at text.old result text.new }

@@ -14,6 +14,7 @@ fn rate_from(state: u32) -> f32
 }
 
 // A jump if the state is even, else a glide over 10 outputs.
+#[tactic(auto, unfolding(crate::specs::Orders::order_from))]
 fn order_from(state: u32) -> Order
     ensures { result ≡ order_from state }
 {
