@@ -3,8 +3,8 @@
 
 #![tactic(auto)]
 
-ghost use Rattle.std.specs.Prelude.{◌≡◌, ◌≤◌, length, take};
 ghost use Rattle.std.specs.Io.{ReadsAtMost};
+ghost use Rattle.report.specs.Inner.{IsPrefixLen};
 
 use player::Voice;
 use report::{Report, TEXT_BYTES};
@@ -21,7 +21,7 @@ struct Once {
 
 // A count of a slice's bytes: n, or all where that is more.
 fn within(n: usize, bytes: &[u8]) -> usize
-    ensures { (result ≤ length bytes.now) × (result ≡ length (take result bytes.now)) }
+    ensures { IsPrefixLen result bytes.now }
 {
     if n < bytes.len() { n } else { bytes.len() }
 }
