@@ -26,12 +26,11 @@ show() {
 # Proves a static library and what it stands on, and writes its archive; shows all that rt said only where it fails.
 prove() { # ARCHIVE
     local log=target/log/$1
-    mkdir -p target/log target/staticlib
-    (cd "crates/$1" && rt lib) 2>&1 | tee "$log" | show || {
+    mkdir -p target/log
+    bash examples/archive.sh "$1" 2>&1 | tee "$log" | show || {
         tail -n 40 "$log" | cut -c 1-300 >&2
-        fail "rt lib failed in crates/$1; $log has all that it said"
+        fail "examples/archive.sh $1 failed; $log has all that it said"
     }
-    cp "crates/$1/out/lib$1.a" target/staticlib/
 }
 
 for tool in rt cargo; do

@@ -1,7 +1,7 @@
 /*
  * Builds and plays three of the bench cases of document 01, with its book K, and
- * shows a refusal. From the repository's root, once `rt staticlib tone_builder`
- * and `rt staticlib tone` have written the archives:
+ * shows a refusal. From the repository's root, once `bash examples/archive.sh tone_builder`
+ * and `bash examples/archive.sh tone` have written the archives:
  *
  *   gcc -std=c99 -Iinclude examples/c/bench_cases.c -Ltarget/staticlib -ltone_builder -ltone -o bench_cases
  *   ./bench_cases

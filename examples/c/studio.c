@@ -2,7 +2,7 @@
  * A studio's program: tests books, asks how long stores are, builds the stores of
  * document 01's bench cases, with its book K, and draws the test hum's first
  * samples. It knows no player. From the
- * repository's root, once `rt staticlib tone_builder` has written the archive:
+ * repository's root, once `bash examples/archive.sh tone_builder` has written the archive:
  *
  *   gcc -std=c99 -Iinclude examples/c/studio.c -Ltarget/staticlib -ltone_builder -o studio
  *   ./studio

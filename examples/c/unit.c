@@ -1,7 +1,7 @@
 /*
  * A unit's program: plays bench cases B and C of document 01 from stores that a
  * studio built, as constants. It knows no level builder. From the repository's
- * root, once `rt staticlib tone` has written the archive:
+ * root, once `bash examples/archive.sh tone` has written the archive:
  *
  *   gcc -std=c99 -Iinclude examples/c/unit.c -Ltarget/staticlib -ltone -o unit
  *   ./unit

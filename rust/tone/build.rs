@@ -1,5 +1,5 @@
-//! Links the archive of each half that is asked for. `rt staticlib` writes them
-//! into the repository's `target/staticlib`; `TONE_ARCHIVE_DIR` names another
+//! Links the archive of each half that is asked for. `examples/archive.sh` writes
+//! them into the repository's `target/staticlib`; `TONE_ARCHIVE_DIR` names another
 //! folder.
 
 use std::env;
@@ -29,7 +29,7 @@ fn main() {
         println!("cargo::rustc-link-lib=static={name}");
         if !archive.is_file() {
             println!(
-                "cargo::error={} is missing: run `rt staticlib {name}` in the repository's root first",
+                "cargo::error={} is missing: run `bash examples/archive.sh {name}` in the repository's root first",
                 archive.display()
             );
         }

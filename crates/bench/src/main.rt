@@ -5,7 +5,7 @@
 use control::{Card, Order};
 use player::Voice;
 use std::io;
-use std::io::{BufWriter, Write};
+use std::io::Write;
 
 const K: [i32; 11] = [2, 1, 0, 0, 1, 0, 16384, 16384, -16384, 16384, 16384];
 
@@ -62,7 +62,7 @@ fn loud(out: &mut impl Write, x: i16) -> io::Result<()> {
 }
 
 fn main(rt: HostRuntime) -> io::Result<()> {
-    let mut out = BufWriter::new(rt.alloc(), io::writer(&rt))?;
+    let mut out = rt.stdout();
     let mut four = [0i16; 4];
     let mut three = [0i16; 3];
     ramp(&mut out, 'A', 1.0, 0, &mut four)?;

@@ -13,7 +13,7 @@ use std::io::{Read, Write};
 use test_setting::Setting;
 
 // A report after a read, and whether the input goes on.
-#[derive(Drop)]
+#[derive(Clone, Copy)]
 struct Once {
     report: Report,
     goes_on: bool,

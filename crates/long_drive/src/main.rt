@@ -10,7 +10,7 @@ use control::{Card, Order};
 use filter::Book;
 use player::Voice;
 use std::io;
-use std::io::{BufWriter, Write};
+use std::io::Write;
 
 mod filter; // the book
 
@@ -111,7 +111,7 @@ fn drive(out: &mut impl Write, book: &Book, store: &Store) -> io::Result<()> {
 }
 
 fn main(rt: HostRuntime) -> io::Result<()> {
-    let mut out = BufWriter::new(rt.alloc(), io::writer(&rt))?;
+    let mut out = rt.stdout();
     let book = filter::BOOK;
     let mut store = [0i32; 65536];
     built(&book, &mut store);

@@ -8,21 +8,21 @@ mod calls; // open, order, seek and play
 mod outputs; // histories and blocks of outputs
 
 // A voice: its control, and the last 81 points, newest first.
-#[derive(Drop)]
+#[derive(Clone, Copy)]
 pub struct Voice {
     pub control: Control,
     pub history: [i32; 81],
 }
 
 // What opening, an order and a seek hand back: a refusal number or 0, and the voice.
-#[derive(Drop)]
+#[derive(Clone, Copy)]
 pub struct Answer {
     pub number: u32,
     pub voice: Voice,
 }
 
 // What a play hands back: a refusal number or 0, the voice, and its multiply count, which is 0 where it is refused.
-#[derive(Drop)]
+#[derive(Clone, Copy)]
 pub struct PlayAnswer {
     pub number: u32,
     pub voice: Voice,

@@ -7,7 +7,7 @@
 use control::{Card, Order};
 use player::{Answer, Voice};
 use std::io;
-use std::io::{BufWriter, Write};
+use std::io::Write;
 
 mod damage; // voices with a field changed
 
@@ -495,7 +495,7 @@ fn no_outputs(out: &mut impl Write) -> io::Result<()> {
 }
 
 fn main(rt: HostRuntime) -> io::Result<()> {
-    let mut out = BufWriter::new(rt.alloc(), io::writer(&rt))?;
+    let mut out = rt.stdout();
     limits(&mut out)?;
     no_rates(&mut out)?;
     glide(&mut out)?;

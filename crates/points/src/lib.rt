@@ -23,7 +23,7 @@ use values::layout::Layout;
 mod planned; // points from their plans
 
 // What the points of some outputs leave: the control, how many outputs they are of, and how many level values they took.
-#[derive(Drop)]
+#[derive(Clone, Copy)]
 pub struct PointRun {
     pub control: Control,
     pub made: usize,

@@ -17,10 +17,10 @@ mod lines; // lines of text
 mod rates; // rates by their bits
 
 use std::io;
-use std::io::{BufWriter, Write};
+use std::io::Write;
 
 fn main(rt: HostRuntime) -> io::Result<()> {
-    let mut out = BufWriter::new(rt.alloc(), io::writer(&rt))?;
+    let mut out = rt.stdout();
     drive_5::text(&mut out)?;
     drive_7::text(&mut out)?;
     drive_23::text(&mut out)?;

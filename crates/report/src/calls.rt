@@ -134,11 +134,7 @@ impl Drive {
         requires count_bound { count ≤ 4096 }
         ensures { Tells self (drive_line book.now store.now self (Play count)) at text.old result text.new }
     {
-        let history = self.voice.history;
-        let voice = Voice {
-            control: self.voice.control,
-            history,
-        };
+        let voice = self.voice;
         let answer = play_outputs(voice, book, store, count);
         self.after_play(answer, count, text, at)
     }
@@ -148,11 +144,7 @@ impl Drive {
         requires { at + 96 ≤ length text.old }
         ensures { Tells self (after_answer self.voice (order_answer self.voice order)) at text.old result text.new }
     {
-        let history = self.voice.history;
-        let voice = Voice {
-            control: self.voice.control,
-            history,
-        };
+        let voice = self.voice;
         let answer = voice.order(order);
         self.after_answer(answer, text, at)
     }
@@ -161,11 +153,7 @@ impl Drive {
         requires { at + 96 ≤ length text.old }
         ensures { Tells self (after_answer self.voice (seek_answer self.voice position)) at text.old result text.new }
     {
-        let history = self.voice.history;
-        let voice = Voice {
-            control: self.voice.control,
-            history,
-        };
+        let voice = self.voice;
         let answer = voice.seek(position);
         self.after_answer(answer, text, at)
     }

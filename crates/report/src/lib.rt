@@ -16,7 +16,7 @@ pub const PIECE_BYTES: u64 = 4096;
 pub const TEXT_BYTES: usize = 393216;
 
 // What was played so far.
-#[derive(Drop)]
+#[derive(Clone, Copy)]
 pub struct Drive {
     pub voice: Voice,
     pub plays: u32,
@@ -25,14 +25,14 @@ pub struct Drive {
 }
 
 // A drive after a line, and where its text ends.
-#[derive(Drop)]
+#[derive(Clone, Copy)]
 pub struct Told {
     pub drive: Drive,
     pub end: usize,
 }
 
 // A report under way: the bytes of the input that are left to read, the line that was begun, and what was played.
-#[derive(Drop)]
+#[derive(Clone, Copy)]
 pub struct Report {
     pub left: u32,
     pub scan: Scan,
@@ -40,7 +40,7 @@ pub struct Report {
 }
 
 // A report after a piece of the input, and the count of bytes to print.
-#[derive(Drop)]
+#[derive(Clone, Copy)]
 pub struct Piece {
     pub report: Report,
     pub count: usize,

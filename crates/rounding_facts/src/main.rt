@@ -6,7 +6,7 @@
 use control::{Card, Order};
 use player::Voice;
 use std::io;
-use std::io::{BufWriter, Write};
+use std::io::Write;
 
 // Document 01's book K.
 const K: [i32; 11] = [2, 1, 0, 0, 1, 0, 16384, 16384, -16384, 16384, 16384];
@@ -151,7 +151,7 @@ fn outputs(out: &mut impl Write) -> io::Result<()> {
 }
 
 fn main(rt: HostRuntime) -> io::Result<()> {
-    let mut out = BufWriter::new(rt.alloc(), io::writer(&rt))?;
+    let mut out = rt.stdout();
     level(&mut out)?;
     values(&mut out)?;
     values_below_zero(&mut out)?;

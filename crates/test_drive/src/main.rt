@@ -5,7 +5,7 @@
 
 use player::Voice;
 use std::io;
-use std::io::{BufWriter, Write};
+use std::io::Write;
 use test_setting::Setting;
 use test_setting::orders::next_order;
 
@@ -39,7 +39,7 @@ fn drive(
 }
 
 fn main(rt: HostRuntime) -> io::Result<()> {
-    let mut out = BufWriter::new(rt.alloc(), io::writer(&rt))?;
+    let mut out = rt.stdout();
     let s = Setting::new();
     let book = s.book;
     let store = s.store;

@@ -15,7 +15,7 @@ pub mod orders; // the orders of the stream
 const BOOK: [i32; 11] = [2, 1, 0, 0, 16, 0, 16384, 16384, -16384, 16384, 16384];
 
 // What a drive plays on, and the state of the stream after the samples.
-#[derive(Drop)]
+#[derive(Clone, Copy)]
 pub struct Setting {
     pub book: [i32; 11],
     pub store: [i32; 11205],
@@ -24,7 +24,7 @@ pub struct Setting {
 }
 
 // The next order of the stream, and its state.
-#[derive(Drop)]
+#[derive(Clone, Copy)]
 pub struct NextOrder {
     pub state: u32,
     pub order: Order,

@@ -73,9 +73,12 @@ fn told_to_run(output: &Output) -> Vec<String> {
 fn a_missing_archive_is_named() {
     let none = emptied("no-archives");
     let (output, _) = built(&manifest_of("studio"), &[], &none);
-    assert_eq!(told_to_run(&output), ["rt staticlib tone_builder"]);
+    assert_eq!(
+        told_to_run(&output),
+        ["bash examples/archive.sh tone_builder"]
+    );
     let (output, _) = built(&manifest_of("unit"), &[], &none);
-    assert_eq!(told_to_run(&output), ["rt staticlib tone"]);
+    assert_eq!(told_to_run(&output), ["bash examples/archive.sh tone"]);
 }
 
 #[test]

@@ -90,6 +90,12 @@ fn strays(sources: &Sources) -> Vec<&'static str> {
 #[test]
 fn the_limit_is_the_last_step() {
     let product = product();
+    let last = set(&["arith::near", "arith::limit16"]);
+    assert_eq!(product.called("decimation", "sample"), last);
+    assert_eq!(
+        product.called("decimation", "write_sample"),
+        set(&["decimation::sample"])
+    );
     assert_eq!(strays(&product), [""; 0]);
     assert!(product.imports("player::calls", "crate::outputs::fill"));
     assert!(product.imports("player::outputs", "decimation::write_outputs"));

@@ -101,6 +101,16 @@ impl Sources {
         self
     }
 
+    /// The functions that a function calls, as `module::function`.
+    pub fn called(&self, module: &str, name: &str) -> BTreeSet<String> {
+        let function = self.function(module, name).expect("the function's source");
+        let paths = calls(&function).into_iter();
+        paths
+            .map(|path| self.resolve(module, &path))
+            .map(|(module, name)| format!("{module}::{name}"))
+            .collect()
+    }
+
     /// Where a path of a module leads: a function of the same module, of another
     /// crate, or of a module of the same crate.
     fn resolve(&self, module: &str, path: &[String]) -> (String, String) {

@@ -1,6 +1,6 @@
 //! The program `drive_report`, run as a process, against the renderer's text.
 //!
-//! `rt check drive_report` writes the program. `DRIVE_SEED` sets the random inputs;
+//! `rt run` in crates/drive_report writes the program. `DRIVE_SEED` sets the random inputs;
 //! see the crate.
 
 mod damage;

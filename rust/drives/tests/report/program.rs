@@ -31,10 +31,11 @@ pub fn expected(input: &[u8]) -> String {
 
 /// The program with this standard input.
 pub fn start(input: impl Into<Stdio>) -> Child {
-    let path = Path::new(env!("CARGO_MANIFEST_DIR")).join("../../target/bin/drive_report");
+    let path =
+        Path::new(env!("CARGO_MANIFEST_DIR")).join("../../crates/drive_report/out/drive_report");
     assert!(
         path.is_file(),
-        "{} is missing: run `rt check drive_report` in the repository's root first",
+        "{} is missing: run `rt run` in crates/drive_report first",
         path.display()
     );
     let mut command = Command::new(path);

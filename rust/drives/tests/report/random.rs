@@ -92,7 +92,7 @@ fn damaged_inputs() {
     }
 }
 
-/// `rt check` runs it too. Its last line is an accepted play without its line end.
+/// `rt ci` runs it too. Its last line is an accepted play without its line end.
 #[test]
 fn the_kept_drive() {
     let kept = |bytes: &[u8]| Line {

@@ -7,7 +7,7 @@ use std::thread::sleep;
 use std::time::{Duration, Instant};
 
 use crate::bench::{
-    accepted, bytes_of, error_text, python, text_of, unusable, wav_of, Folder, Stage, K,
+    accepted, bytes_of, error_text, python, text_of, unusable, wav_of, words_of, Folder, Stage, K,
 };
 
 #[test]
@@ -60,6 +60,34 @@ fn outputs_that_cannot_be_written() {
         &["book.txt/x"],
     );
     assert_eq!(folder.names(), ["book.txt", "hum.wav"]);
+}
+
+#[cfg(unix)]
+#[test]
+fn links_and_special_files() {
+    let folder = Folder::new();
+    let (book, recording) = (folder.book(&K), folder.recording(&[1, 2, 3]));
+    // what is no regular file is left alone, where a rename would replace it
+    let pipe = folder.path("pipe");
+    let made = Command::new("mkfifo").arg(&pipe).status().unwrap();
+    assert!(made.success());
+    let output = run!("build", book, recording, "0", pipe);
+    unusable(&output, &["not a regular file"]);
+    assert!(!pipe.is_file());
+    let link = folder.path("link");
+    std::os::unix::fs::symlink(&book, &link).unwrap();
+    unusable(
+        &run!("build", book, recording, "0", link),
+        &["one of the inputs"],
+    );
+    // through a link to another file that file is written, and the link stays
+    let store = folder.write("hum.store", "older");
+    fs::remove_file(&link).unwrap();
+    std::os::unix::fs::symlink(&store, &link).unwrap();
+    accepted(&run!("build", book, recording, "0", link));
+    assert!(link.is_symlink());
+    let words = [3, 0, 3, 256, 512, 768];
+    assert_eq!(words_of(&fs::read(&store).unwrap()), words);
 }
 
 /// A signal in the middle of a long drive: the temporary file goes.
