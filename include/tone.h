@@ -86,7 +86,7 @@ enum tone_voice_word {
  *          read as signed, then 9 of the length that they call for, then 18.
  * Writes:  nothing.
  *
- * The number is storeNumber of the store's words (crates/store/specs/Check.antt).
+ * The number is store_number of the store's words (crates/store/specs/Check.antt).
  */
 uint32_t tone_check_store(const int32_t *store, size_t store_words);
 
@@ -100,8 +100,8 @@ uint32_t tone_check_store(const int32_t *store, size_t store_words);
  * Writes:  the voice: the fresh one, or after 8 and 10 the zero record, 95 words
  *          of 0. Every later call refuses the zero record.
  *
- * Number and voice are those of openCrossing (crates/marshal/specs/Calls.antt),
- * over openAnswer (crates/player/specs/Calls.antt).
+ * Number and voice are those of open_crossing (crates/marshal/specs/Calls.antt),
+ * over open_answer (crates/player/specs/Calls.antt).
  */
 uint32_t tone_open(float rate, uint32_t top, int32_t *voice, size_t voice_words);
 
@@ -112,7 +112,7 @@ uint32_t tone_open(float rate, uint32_t top, int32_t *voice, size_t voice_words)
  * Writes:  the voice. Words other than 4 to 11 keep their values.
  *
  * Number and voice are those of crossing (crates/marshal/specs/Calls.antt), over
- * orderAnswer (crates/player/specs/Calls.antt).
+ * order_answer (crates/player/specs/Calls.antt).
  */
 uint32_t tone_jump(int32_t *voice, size_t voice_words, float rate);
 
@@ -125,7 +125,7 @@ uint32_t tone_jump(int32_t *voice, size_t voice_words, float rate);
  * Writes:  the voice. Words other than 6 to 11 keep their values.
  *
  * Number and voice are those of crossing (crates/marshal/specs/Calls.antt), over
- * orderAnswer (crates/player/specs/Calls.antt).
+ * order_answer (crates/player/specs/Calls.antt).
  */
 uint32_t tone_glide(int32_t *voice, size_t voice_words, float rate, uint32_t count);
 
@@ -136,7 +136,7 @@ uint32_t tone_glide(int32_t *voice, size_t voice_words, float rate, uint32_t cou
  * Writes:  the voice. Words other than 12 and 13 keep their values.
  *
  * Number and voice are those of crossing (crates/marshal/specs/Calls.antt), over
- * seekAnswer (crates/player/specs/Calls.antt).
+ * seek_answer (crates/player/specs/Calls.antt).
  */
 uint32_t tone_seek(int32_t *voice, size_t voice_words, uint64_t position);
 
@@ -166,8 +166,8 @@ uint32_t tone_seek(int32_t *voice, size_t voice_words, uint64_t position);
  * Writes:  every output word, the voice, and the multiply count; a refused call
  *          writes a multiply count of 0 and nothing else.
  *
- * Number, voice, multiply count and output are those of playCrossing
- * (crates/marshal/specs/Calls.antt), over playAnswer
+ * Number, voice, multiply count and output are those of play_crossing
+ * (crates/marshal/specs/Calls.antt), over play_answer
  * (crates/player/specs/Calls.antt).
  *
  * THE PROMISE OF A WHOLE DRIVE (theorem demand3, crates/drive/proofs/Theorem.antt).

@@ -34,7 +34,7 @@ extern "C" {
  * Numbers: 1 2 3 4 5 6 7.
  * Writes:  nothing.
  *
- * The number is bookNumber of the book's words (crates/book/specs/Check.antt).
+ * The number is book_number of the book's words (crates/book/specs/Check.antt).
  */
 uint32_t tone_check(const int32_t *book, size_t book_words);
 
@@ -43,7 +43,7 @@ uint32_t tone_check(const int32_t *book, size_t book_words);
  * of its header, then S and its halves, each rounded up. 0 where S is outside
  * 1..TONE_MOST_SAMPLES or T above TONE_MOST_TOP.
  *
- * The answer is storeWords of both (crates/tone_builder/specs/Store.antt).
+ * The answer is store_words of both (crates/tone_builder/specs/Store.antt).
  */
 size_t tone_store_words(size_t sample_count, uint32_t top);
 
@@ -56,7 +56,7 @@ size_t tone_store_words(size_t sample_count, uint32_t top);
  * Writes:  the first tone_store_words(sample_count, top) words of the store. The
  *          words after them are left.
  *
- * Number and store are those of buildAnswer (crates/levels/specs/Build.antt).
+ * Number and store are those of build_answer (crates/levels/specs/Build.antt).
  * Words of level j lie within -2^(23+j)..2^(23+j).
  */
 uint32_t tone_build(const int32_t *book, size_t book_words,
@@ -74,7 +74,7 @@ uint32_t tone_build(const int32_t *book, size_t book_words,
  * Returns: the last state, from which another call goes on; with no samples it is
  *          the one that was given.
  *
- * State and samples are those of drawAnswer (crates/test_hum/specs/Hum.antt).
+ * State and samples are those of draw_answer (crates/test_hum/specs/Hum.antt).
  */
 uint32_t tone_test_hum(uint32_t state, int16_t *samples, size_t sample_count);
 

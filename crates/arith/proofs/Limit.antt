@@ -6,6 +6,8 @@ use Prim.Native.Nat.{ℕ, ◌≤◌}
 use native.Mathlib.Omega.{arith}
 use lib.IntN.{ℤ, pos, negsuc, neg_ℤ, nat_abs, ◌-ℤ◌}
 use lib.Signed.{lt_z, ◌≤ℤ◌, ◌<ℤ◌, ≤ℤ_refl}
+use Rattle.std.specs.Int.{int_max, int_min}
+use Rattle.std.proofs.lemmas.Int.{ints}
 use Rattle.arith.specs.Limit.{limit}
 use Rattle.arith.proofs.Linear.{linear, signed, lt_yes, lt_no}
 use Rattle.arith.proofs.Integers.{<ℤ-≤ℤ, abs-≤, ≤-abs, ≤ℤ-antisymm}
@@ -50,6 +52,11 @@ module _ (lo hi x : ℤ) where
       go true t e f = ≤ℤ-antisymm h (<ℤ-≤ℤ (lt_yes e))
       go false true e f = ≤ℤ-antisymm (<ℤ-≤ℤ (lt_yes f)) k
       go false false e f = refl
+
+-- the library's words for it
+pub limit_clamp : (lo hi x : ℤ) → lo ≤ℤ hi → int_max lo (int_min x hi) ≡ limit lo hi x
+unfolding limit
+limit_clamp lo hi x h = grind (arith, ints)
 
 -- r is the positive part of a: a, or 0 where that is larger
 abbrev pub Positive : ℤ → ℤ → Type 0

@@ -2,15 +2,30 @@
 -- nothing.
 use mathlib.Core.Path.{◌≡◌, sym, ap, ◌∙◌}
 use mathlib.Core.Logic.{◌⊎◌, inl, inr}
-use Prim.Native.Nat.{ℕ, suc, ◌+◌, ◌*◌, ◌/◌, ◌%◌, ◌≤◌, ◌<◌}
+use Prim.Native.Nat.{ℕ, suc, ◌+◌, ◌*◌, ◌/◌, ◌%◌, ◌^◌, ◌≤◌, ◌<◌}
 use native.Mathlib.Nat.{div-add-mod, mod-lt, mul-pos}
 use native.Mathlib.Omega.{arith}
 use lib.IntN.{ℤ, pos, negsuc, nat_abs, ◌+ℤ◌, ◌-ℤ◌, ◌*ℤ◌, +ℤ_comm}
-use lib.Signed.{◌≤ℤ◌, ◌<ℤ◌}
+use lib.Signed.{◌≤ℤ◌, ◌<ℤ◌, quot_z}
+use mir.Syntax.{w64}
+use mir.Val.{SFits}
+use Rattle.std.specs.Int.{int_rem_euclid}
 use Rattle.arith.specs.Floor.{floor_div, even_of, near}
 use Rattle.arith.proofs.Linear.{linear}
 use Rattle.arith.proofs.Integers.{≤ℤ-or-<ℤ, ≤ℤ-antisymm, abs_triangle}
-use Rattle.arith.proofs.Floor.{even_or, closer, halfway, near_is, floor-≤, floor-<, floor_unique, floor_bound, floor-+, floor-floor}
+use Rattle.arith.proofs.Floor.{even_or, closer, halfway, near_is, floor-≤, floor-<, floor_unique, floor_bound, floor-+, floor-floor, multiple_fits, rest_euclid, quot_exact}
+
+-- ---- rounded down: without its rest a is a multiple of b, which the division takes exactly
+
+pub shift_fits : (a r : ℤ) {b : ℤ} → pos 0 <ℤ b → nat_abs a + 2 ^ 34 ≤ 2 ^ 63 → b ≤ℤ pos (2 ^ 34) → r ≡ int_rem_euclid a b → SFits w64 (a -ℤ r)
+shift_fits a r {b} h small few e =
+    let left : a -ℤ r ≡ pos (nat_abs b) *ℤ floor_div a (nat_abs b) = rw (e, rest_euclid a h) (simp linear (omega arith)) in
+    rw left (multiple_fits a h small few)
+
+pub shift_floor : (a r : ℤ) {b : ℤ} → pos 0 <ℤ b → r ≡ int_rem_euclid a b → quot_z (a -ℤ r) b ≡ floor_div a (nat_abs b)
+shift_floor a r {b} h e =
+    let left : a -ℤ r ≡ pos (nat_abs b) *ℤ floor_div a (nat_abs b) = rw (e, rest_euclid a h) (simp linear (omega arith)) in
+    rw left (quot_exact (floor_div a (nat_abs b)) h)
 
 -- ---- the lowest bit
 
@@ -142,19 +157,45 @@ module _ (a : ℤ) {b : ℕ} (h : 0 < b) where
   abbrev up : ℤ
   up = floor_div (pos 2 *ℤ a +ℤ pos b) (2 * b)
 
-  abbrev left : ℤ
-  left = pos 2 *ℤ a +ℤ pos b -ℤ pos (2 * b) *ℤ up
+  abbrev multiple : ℤ
+  multiple = pos (2 * b) *ℤ up
 
-  pub near_no_half : (left ≡ pos 0 → ⊥) → up ≡ near a b
-  near_no_half apart = go (≤ℤ-or-<ℤ left (pos 0))
+  near_no_half : (multiple ≡ pos 2 *ℤ a +ℤ pos b → ⊥) → up ≡ near a b
+  near_no_half apart = go (≤ℤ-or-<ℤ (pos 2 *ℤ a +ℤ pos b) multiple)
     where
-      go : (left ≤ℤ pos 0) ⊎ (pos 0 <ℤ left) → up ≡ near a b
-      go (inl k) = absurd (apart (≤ℤ-antisymm k (simp linear (omega (arith, simp linear at (floor-≤ (pos 2 *ℤ a +ℤ pos b) {b = 2 * b} (omega (arith, h))))))))
+      go : ((pos 2 *ℤ a +ℤ pos b) ≤ℤ multiple) ⊎ (multiple <ℤ (pos 2 *ℤ a +ℤ pos b)) → up ≡ near a b
+      go (inl k) = absurd (apart (≤ℤ-antisymm (floor-≤ (pos 2 *ℤ a +ℤ pos b) {b = 2 * b} (omega (arith, h))) k))
       go (inr k) =
           let m = floor-< (pos 2 *ℤ a +ℤ pos b) {b = 2 * b} (omega (arith, h)) in
           sym (near_is a h (closer up (simp linear (omega (arith, simp linear at k, simp linear at m)))))
 
-  pub near_half : left ≡ pos 0 → up -ℤ odd_of up ≡ near a b
+  near_half : multiple ≡ pos 2 *ℤ a +ℤ pos b → up -ℤ odd_of up ≡ near a b
   near_half e =
       let k : pos 2 *ℤ a ≡ pos (2 * b) *ℤ (up -ℤ pos 1) +ℤ pos b = simp linear (omega (arith, simp linear at e)) in
       even_down up ∙ sym (near_is a h (halfway (up -ℤ pos 1) k))
+
+-- the same, as the code has the numbers: q is the quotient by 2b, and its multiple is compared with 2a + b
+twice_multiple : (q : ℤ) {b : ℤ} → pos 0 <ℤ b → q *ℤ (pos 2 *ℤ b) ≡ pos (2 * nat_abs b) *ℤ q
+twice_multiple q {b = pos n} h = simp linear (omega arith)
+twice_multiple q {b = negsuc n} h = absurd h.lt
+
+pub near_up : (a q : ℤ) {b : ℤ} → pos 0 <ℤ b → q ≡ floor_div (pos 2 *ℤ a +ℤ b) (2 * nat_abs b) → (q *ℤ (pos 2 *ℤ b) ≡ pos 2 *ℤ a +ℤ b → ⊥) → q ≡ near a (nat_abs b)
+near_up a q {b = pos n} h e apart =
+    let z : 0 < n = omega (arith, simp linear at h) in
+    rw e (near_no_half a z (λ d. apart (rw e (twice_multiple (up a z) h ∙ d))))
+near_up a q {b = negsuc n} h e apart = absurd h.lt
+
+pub near_down : (a q r : ℤ) {b : ℤ} → pos 0 <ℤ b → q ≡ floor_div (pos 2 *ℤ a +ℤ b) (2 * nat_abs b) → q *ℤ (pos 2 *ℤ b) ≡ pos 2 *ℤ a +ℤ b → r ≡ odd_of q → q -ℤ r ≡ near a (nat_abs b)
+near_down a q r {b = pos n} h e d o =
+    let z : 0 < n = omega (arith, simp linear at h) in
+    let whole : multiple a z ≡ pos 2 *ℤ a +ℤ pos n = sym (twice_multiple (up a z) h) ∙ ap (λ k. k *ℤ (pos 2 *ℤ pos n)) (sym e) ∙ d in
+    rw (o, e) (near_half a z whole)
+near_down a q r {b = negsuc n} h e d o = absurd h.lt
+
+pub twice_multiple_fits : (a q : ℤ) {b : ℤ} → pos 0 <ℤ b → b ≤ℤ pos (2 ^ 32) → nat_abs a ≤ 2 ^ 60 → q ≡ floor_div (pos 2 *ℤ a +ℤ b) (2 * nat_abs b) → SFits w64 (q *ℤ (pos 2 *ℤ b))
+twice_multiple_fits a q {b = pos n} h l s e =
+    let twice : pos 0 <ℤ pos (2 * n) = simp linear (omega (arith, simp linear at h)) in
+    let small : nat_abs (pos 2 *ℤ a +ℤ pos n) + 2 ^ 34 ≤ 2 ^ 63 = simp linear (omega (arith, simp linear at s, simp linear at l)) in
+    let m = multiple_fits (pos 2 *ℤ a +ℤ pos n) twice small (simp linear (omega (arith, simp linear at l))) in
+    rw (twice_multiple q h, e) m
+twice_multiple_fits a q {b = negsuc n} h l s e = absurd h.lt

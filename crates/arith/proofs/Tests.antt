@@ -1,6 +1,7 @@
 -- The laws of `eq_z`, `within` and `every`. Assumes nothing.
 use mathlib.Core.Path.{◌≡◌, refl, sym, ap, ap₂, ◌∙◌}
 use mathlib.Core.Bool.{Bool, true, false, ◌&&◌, ◌||◌, cond}
+use mathlib.Core.List.{List}
 use Prim.Native.Nat.{ℕ, zero, suc, ◌+◌, ◌*◌, ◌≤◌, ◌<◌}
 use native.Mathlib.Nat.{add-zero, add-suc, not-suc-le-zero}
 use native.Mathlib.Numerals.{add-one}
@@ -9,13 +10,16 @@ use native.Mathlib.Omega.{arith}
 use borrow.Author.Tests.{eqb-true, lt-ltb, le-ltb, lt-leb, le-leb, eq-eqb, ne_eqb, not-true, not-false}
 use lib.Dec.{leb, eqb, leb-suc-suc}
 use lib.IntN.{ℤ, pos, negsuc, nat_abs}
+use lib.ListN.{length}
 use lib.Signed.{le_z, ◌≤ℤ◌}
 use mir.Syntax.{Width}
 use mir.Val.{SFits, to_z, of_z}
 use mir.ValLaws.{to_z-of_z}
+use Rattle.arith.specs.Lists.{at, part}
 use Rattle.arith.specs.Tests.{eq_z, within, every}
 use Rattle.arith.proofs.Linear.{linear, le_yes}
 use Rattle.arith.proofs.Integers.{abs-≤}
+use Rattle.arith.proofs.Lists.{part_length, at_part}
 
 -- ---- both of two tests
 
@@ -106,6 +110,15 @@ every_count n f m e d s = rw (s, d, add-one, ← e) (go (f n))
     go true = rw add-zero (sym (&&-true (eqb m 0)))
     go false = ne_eqb (m + 1) 0 (λ d. omega arith) ∙ sym (&&-false (eqb m 0))
 
+-- a loop that asks whether the test holds at each index so far
+pub every_none : (f : ℕ → Bool) → true ≡ every 0 f
+unfolding every
+every_none f = refl
+
+pub every_next : (n : ℕ) (f : ℕ → Bool) {t b : Bool} → t ≡ every n f → b ≡ f n → t && b ≡ every (n + 1) f
+unfolding every
+every_next n f e h = rw (e, h, add-one)
+
 pub every_all : (n : ℕ) (f : ℕ → Bool) → ((k : ℕ) → k < n → f k ≡ true) → every n f ≡ true
 unfolding every
 every_all zero f h = refl
@@ -149,6 +162,10 @@ every_rows zero n f = let e : 0 * n ≡ 0 = omega arith in rw e
 every_rows (suc m) n f =
     let e : suc m * n ≡ m * n + n = omega arith in
     rw e (ap (λ b. b && every n (λ k. f (m * n + k))) (every_rows m n f) ∙ sym (every-split (m * n) n f))
+
+-- a test on the words of a part
+pub every_part : (xs : List ℤ) (from count : ℕ) (f : ℤ → Bool) → from + count ≤ length xs → every (length (part xs from count)) (λ i. f (at (part xs from count) i)) ≡ every count (λ i. f (at xs (from + i)))
+every_part xs from count f h = rw (part_length xs from count h) (every_ext count (λ i l. ap f (at_part xs from count i l)))
 
 -- ---- between two bounds
 

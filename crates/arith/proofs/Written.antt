@@ -6,9 +6,11 @@ use native.Mathlib.Nat.{add-zero, suc-add}
 use native.Mathlib.Numerals.{add-one}
 use native.Mathlib.Omega.{arith}
 use lib.ListN.{length, get_or, set, take, drop, length-append, length-drop}
+use borrow.Rule.Slice.PartMut.{put_mid}
+use Rattle.std.proofs.lemmas.List.{drop-drop, drop-append-le, take-append-drop, take_at, drop_at}
 use lib.Seq.{get_or-take, length-take-le, paste}
 use Rattle.arith.specs.Lists.{tabulate, overwrite}
-use Rattle.arith.proofs.Lists.{length-tabulate, get_or-tabulate, paste_none, paste_more, paste_all, overwrite_none, overwrite_front, tabulate_back, take_before}
+use Rattle.arith.proofs.Lists.{length-tabulate, get_or-tabulate, paste_none, paste_more, paste_all, paste_whole, overwrite_none, overwrite_front, tabulate_back, take_before}
 
 -- ---- one behind another
 
@@ -59,6 +61,43 @@ behind xs a f m (suc n) h =
 pub written_behind : {A : Type 0} (xs : List A) (a : ℕ) (f : ℕ → A) (m n : ℕ) {ys zs : List A} → a + m + n ≤ length xs → ys ≡ written xs a f m
     → zs ≡ written ys (a + m) (λ k. f (m + k)) n → zs ≡ written xs a f (m + n)
 written_behind xs a f m n h y z = z ∙ ap (λ l. written l (a + m) (λ k. f (m + k)) n) y ∙ behind xs a f m n h
+
+-- ---- a part of a list, k words from place a on
+
+module _ {A : Type 0} (xs : List A) (a k : ℕ) where
+  -- words written over all of it
+  pub part_all : (ys : List A) → length ys ≡ k → put_mid a k xs ys ≡ overwrite xs a ys
+  part_all ys e =
+      let place : a + k ≡ a + length ys = omega arith in
+      ap (λ zs. take a xs ++ (ys ++ zs)) (drop-drop k a xs ∙ ap (λ i. drop i xs) place) ∙ sym (append_assoc (take a xs) ys (drop (a + length ys) xs))
+
+  -- words written over its first ones
+  pub part_written : (m : ℕ) (f : ℕ → A) (ys : List A) → a + k ≤ length xs → m ≤ k → ys ≡ overwrite (take k (drop a xs)) 0 (tabulate m f) → put_mid a k xs ys ≡ overwrite xs a (tabulate m f)
+  part_written m f ys h l e =
+      let new : List A = tabulate m f in
+      let mid : List A = drop a xs in
+      let n : length new ≡ m = length-tabulate m f in
+      let rest : length (take k mid) ≡ k = length-take-le k mid (omega (arith, length-drop a xs)) in
+      let place : a + (0 + length new) ≡ a + length new = omega arith in
+      let kept : drop (0 + length new) (take k mid) ++ drop k mid ≡ drop (a + length new) xs =
+      sym (drop-append-le (0 + length new) (take k mid) (drop k mid) (omega arith)) ∙ ap (drop (0 + length new)) (take-append-drop k mid)
+      ∙ drop-drop (0 + length new) a xs ∙ ap (λ i. drop i xs) place in
+      ap (λ zs. take a xs ++ (zs ++ drop k mid)) e
+      ∙ ap (λ zs. take a xs ++ zs) (append_assoc new (drop (0 + length new) (take k mid)) (drop k mid) ∙ ap (λ zs. new ++ zs) kept)
+      ∙ sym (append_assoc (take a xs) new (drop (a + length new) xs))
+
+  -- what was written over all of it
+  pub part_back : (ys : List A) → a ≤ length xs → k ≡ length ys → take k (drop a (overwrite xs a ys)) ≡ ys
+  part_back ys h e =
+      let rest : List A = drop (a + length ys) xs in
+      let front : length (take a xs) ≡ a = length-take-le a xs h in
+      ap (λ zs. take k (drop a zs)) (append_assoc (take a xs) ys rest) ∙ ap (take k) (drop_at (take a xs) (ys ++ rest) a front) ∙ take_at ys rest k (sym e)
+
+-- a list written over from its first word to its last
+pub all_written : {A : Type 0} (xs : List A) (n : ℕ) (f : ℕ → A) → n ≡ length xs → overwrite xs 0 (tabulate n f) ≡ tabulate n f
+all_written xs n f e =
+    let long : n ≡ length (tabulate n f) = sym (length-tabulate n f) in
+    sym (paste_all xs 0 (tabulate n f) n long) ∙ paste_whole xs (tabulate n f) n long (length-tabulate n f ∙ e)
 
 -- ---- backwards
 

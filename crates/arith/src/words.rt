@@ -1,41 +1,25 @@
-// Words: the bits of one without a sign; of words of a slice, the size of one, and whether one, or each of several, lies in a range.
+// Words of a slice: the size of one, and whether one, or each of several, lies in a range.
 
-ghost use Rattle.std.specs.Prelude.{cond, ◌≡◌, ◌+◌, ◌^◌, ◌≤◌, ◌<◌, nat_abs, length};
+ghost use Rattle.std.specs.Prelude.{cond, ◌≡◌, ◌^◌, ◌≤◌, ◌<◌, nat_abs, length};
 ghost use Rattle.arith.specs.Lists.{at};
 ghost use Rattle.arith.specs.Tests.{within, every};
-ghost use Rattle.arith.specs.Words.{unsigned};
 
-use crate::magnitude;
-
-// The 32 bits of x, read as an unsigned number: no instruction.
-pub fn unsigned(x: i32) -> u32
-    ensures { result ≡ unsigned x }
-{
-    if x < 0 {
-        return (x as i64 + 4294967296) as u32;
-    }
-    x as u32
-}
-
-// The absolute value of a word.
+// The absolute value of a word. The cast stands here once for the words of a book's head, and the edit magnitude_off_by_one is about it.
 pub fn word_size(words: &[i32], i: usize) -> usize
     requires { i < length words.now }
     ensures { (result ≡ nat_abs (at words.now i)) × (result ≤ 2 ^ 31) }
 {
-    magnitude(words[i]) as usize
+    words[i].unsigned_abs() as usize
 }
 
-// lo ≤ x ≤ hi
-fn between(x: i32, lo: i32, hi: i32) -> bool
+// Whether lo ≤ x ≤ hi.
+pub fn between(x: i32, lo: i32, hi: i32) -> bool
     ensures { result ≡ within lo hi x }
 {
-    if x < lo {
-        return false;
-    }
-    x <= hi
+    lo <= x && x <= hi
 }
 
-// The same of a word.
+// The same of a word. With the index as a parameter the tests of a book's head read alike, and each has one clause.
 pub fn word_between(words: &[i32], i: usize, lo: i32, hi: i32) -> bool
     requires { i < length words.now }
     ensures { result ≡ within lo hi (at words.now i) }
@@ -50,16 +34,13 @@ pub fn miss(holds: bool) -> u32
     if holds { 0 } else { 1 }
 }
 
-// Whether each of the `count` words from place `from` on lies in lo..hi.
-pub fn words_between(words: &[i32], from: usize, count: usize, lo: i32, hi: i32) -> bool
-    requires { (from + count ≤ length words.now) × (count < 2 ^ 32) }
-    ensures { result ≡ every count (λ i. within lo hi (at words.now (from + i))) }
+// Whether each word lies in lo..hi. The loop looks at each, with no exit on the way, so that it takes several at once.
+pub fn all_between(words: &[i32], lo: i32, hi: i32) -> bool
+    ensures { result ≡ every (length words.now) (λ i. within lo hi (at words.now i)) }
 {
-    let mut misses = 0;
-    let mut i = 0;
-    while i < count {
-        misses += miss(word_between(words, from + i, lo, hi));
-        i += 1;
+    let mut all = true;
+    for x in words {
+        all &= between(*x, lo, hi);
     }
-    misses == 0
+    all
 }

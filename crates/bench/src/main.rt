@@ -13,25 +13,21 @@ const SLOW: [i32; 11] = [2, 1, 0, 0, 4, 0, 16384, 16384, -16384, 16384, 16384];
 
 const LOUD: [i32; 11] = [2, 1, 0, 0, 1, 0, 16384, 16384, -16384, 16384, 32767];
 
-// Prints a letter and the samples that a voice plays of a recording.
-fn case(
-    out: &mut impl Write,
-    letter: char,
-    book: &[i32],
-    samples: &[i16],
-    v: Voice,
-    block: &mut [i16],
-) -> io::Result<()> {
+// Plays a recording.
+fn play(v: Voice, book: &[i32], samples: &[i16], block: &mut [i16]) {
     let mut store = [0i32; 16];
-    let c = v.control;
-    levels::build(book, samples, c.top, &mut store);
-    v.play(book, &store, block);
+    let _ = levels::build(book, samples, v.control.top, &mut store);
+    let _ = v.play(book, &store, block);
+}
+
+// A letter and the samples that were played.
+fn case(out: &mut impl Write, letter: char, block: &[i16]) -> io::Result<()> {
     write!(out, "{letter}")?;
-    print::samples(out, block)
+    print::line(out, block)
 }
 
 fn opened(rate: f32, top: u32) -> Voice {
-    Voice::open(Card { rate, top }).voice
+    Voice::open(Card { rate, top }).unwrap_or_else(|refused| refused.voice)
 }
 
 // A ramp at a rate.
@@ -43,22 +39,26 @@ fn ramp(
     block: &mut [i16],
 ) -> io::Result<()> {
     let samples = [0i16, 1000, 2000];
-    case(out, letter, &K, &samples, opened(rate, top), block)
+    play(opened(rate, top), &K, &samples, block);
+    case(out, letter, block)
 }
 
 // A wave after a jump from rate 1 to rate 2.
 fn jump(out: &mut impl Write, letter: char, book: &[i32]) -> io::Result<()> {
     let samples = [0i16, 1000, 0, 1000];
     let mut block = [0i16; 2];
-    let v = opened(1.0, 1).order(Order::Jump(2.0)).voice;
-    case(out, letter, book, &samples, v, &mut block)
+    let fresh = opened(1.0, 1);
+    let v = fresh.order(Order::Jump(2.0)).unwrap_or(fresh);
+    play(v, book, &samples, &mut block);
+    case(out, letter, &block)
 }
 
 // A recording of one level, too loud.
 fn loud(out: &mut impl Write, x: i16) -> io::Result<()> {
     let samples = [x; 3];
     let mut block = [0i16; 1];
-    case(out, 'G', &LOUD, &samples, opened(1.0, 0), &mut block)
+    play(opened(1.0, 0), &LOUD, &samples, &mut block);
+    case(out, 'G', &block)
 }
 
 fn main(rt: HostRuntime) -> io::Result<()> {

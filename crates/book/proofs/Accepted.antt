@@ -10,11 +10,11 @@ use Rattle.arith.proofs.Lists.{part_length, at_part}
 use Rattle.arith.proofs.Sum.{total_ext, total_first}
 use Rattle.arith.proofs.Tests.{&&-left, &&-right, every-at, eq_z_true}
 use Rattle.book.specs.declared.Sizes.{Sizes}
-use Rattle.book.specs.Number.{refuse}
+use Rattle.refusal.specs.Number.{refuse}
 use Rattle.book.specs.Book.{sizes_of, level_taps_at, decimation_taps_at, book_length, impulse_word, impulse, difference, level_taps, decimation_taps}
 use Rattle.book.specs.Check.{sizes_in_range, words_in_range, coefficients_in_range, differences_right, phase_sum, tap_sum, sums_in_range, book_number}
 use Rattle.book.proofs.Bounds.{Bounded, bounded, decimation_at, end_at, row_below, impulses_small, array_high, length_is}
-use Rattle.book.proofs.Numbers.{none_first, none_second, not_refused}
+use Rattle.refusal.proofs.Numbers.{none_first, none_second, not_refused}
 use Rattle.book.proofs.Parts.{impulse_stored, impulse_past, impulse_end}
 
 -- none of the numbers 2 to 7 is given

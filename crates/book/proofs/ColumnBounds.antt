@@ -1,7 +1,11 @@
 -- The laws of bounds in 16 bits: they only rise, and what they bound stays bounded. Assumes nothing.
 use Rattle.std.proofs.Common.{◌≡◌, ℕ, zero, suc, ◌+◌, ◌-◌, ◌*◌, ◌/◌, ◌%◌, ◌<◌, ◌≤◌, Bool, true, false, cond, leb, List, length, set, ℤ, pos, negsuc, ◌+ℤ◌, ◌-ℤ◌, nat_abs, ◌≤ℤ◌, ◌<ℤ◌, sym, refl, ap, ◌∙◌, le_trans, arith, length-set, get_or-set_other, get_or-set_same, w16, SFits, le-leb}
-use native.Mathlib.Decide.{ℕ_discrete}
+use native.Mathlib.Decide.{ℕ_discrete, dec_lt}
+use borrow.Rule.Slice.PartMut.{put_mid, same_len_mid}
+use Rattle.std.proofs.lemmas.Slice.{take-put_mid_below, between-put_mid, drop-put_mid}
+use Rattle.std.proofs.lemmas.List.{get_or-take, get_or-drop}
 use lib.Signed.{lt_z, le_z, ≤ℤ_refl}
+use Rattle.std.specs.Int.{int_max}
 use Rattle.arith.specs.Limit.{limit}
 use Rattle.arith.specs.Lists.{at, part}
 use Rattle.arith.specs.Sum.{total}
@@ -13,7 +17,7 @@ use Rattle.arith.proofs.Sum.{total-≤, total_mono}
 use Rattle.arith.proofs.Tests.{&&-both, eq_z_yes, every_all, every_ext, every_rows, every-split}
 use Rattle.book.specs.Book.{sizes_of, level_taps_at, decimation_taps_at, book_length, level_taps, decimation_taps}
 use Rattle.book.specs.Check.{words_in_range, coefficients_in_range, phase_sum, tap_sum, sums_in_range}
-use Rattle.book.specs.Columns.{larger, Bounds, Tested, Passed, Raised, tap_bound}
+use Rattle.book.specs.Columns.{Bounds, Tested, Passed, Raised, tap_bound}
 use Rattle.book.proofs.Around.{tap_bound_lem}
 use Rattle.book.proofs.Bounds.{row_below}
 use Rattle.book.proofs.Parts.{phase_sum_stored}
@@ -21,13 +25,12 @@ use Rattle.book.proofs.Runs.{right_at, same_words}
 
 -- ---- the larger of two
 
-pub at_least : {r x y : ℤ} → r ≡ larger x y → (x ≤ℤ r) × (y ≤ℤ r)
-unfolding larger
-at_least {r} {x} {y} = go (lt_z x y) refl
+pub at_least : {r x y : ℤ} → r ≡ int_max x y → (x ≤ℤ r) × (y ≤ℤ r)
+at_least {r} {x} {y} = go (lt_z y x) refl
   where
-    go : (t : Bool) → lt_z x y ≡ t → r ≡ cond t y x → (x ≤ℤ r) × (y ≤ℤ r)
-    go true e p = rw p (<ℤ-≤ℤ (lt_yes e), ≤ℤ_refl y)
-    go false e p = rw p (≤ℤ_refl x, lt_no e)
+    go : (t : Bool) → lt_z y x ≡ t → r ≡ cond t x y → (x ≤ℤ r) × (y ≤ℤ r)
+    go true e p = rw p (≤ℤ_refl x, <ℤ-≤ℤ (lt_yes e))
+    go false e p = rw p (lt_no e, ≤ℤ_refl y)
 
 -- ---- bounds
 
@@ -49,7 +52,7 @@ pub kept_tested : {c d x y z : ℤ} (t : Bool) → SFits w16 c → d ≡ cond t 
 kept_tested {c} true f e r = (rw e (≤ℤ_refl c), record { right = λ l. r refl })
 kept_tested {c} {d} false f e r = (rw e (simp linear (omega (arith, simp linear at f))), record { right = λ l. absurd (omega (signed, simp linear at e)) })
 
-pub passed_more : {b : List ℤ} {array taps row k : ℕ} {c d : ℤ} → c ≤ℤ d → Passed b array taps row k c → Passed b array taps row k d
+pub passed_more : {c d x y z : ℤ} → c ≤ℤ d → Passed c x y z → Passed d x y z
 passed_more h p = record { bounded = bounds_more h p.bounded; tested = tested_more h p.tested }
 
 -- f is at least x and −1 − x
@@ -84,13 +87,50 @@ raised_set xs k v h l = record { words = length-set xs k v; rise = λ j. go j (�
     go j (no n) = rw (get_or-set_other xs k j v (pos 0) n) (≤ℤ_refl (at xs j))
 
 -- and what held of the bounds passed, and holds of this one
-pub raised_next : (P : ℕ → ℤ → Type 0) → ((j : ℕ) (c d : ℤ) → c ≤ℤ d → P j c → P j d) → (xs : List ℤ) (column k : ℕ) (v : ℤ) → k < length xs → at xs k ≤ℤ v
-    → P k v → ((j : ℕ) → column ≤ j → j < k → P j (at xs j)) → (j : ℕ) → column ≤ j → j < k + 1 → P j (at (set xs k v) j)
-raised_next P stays xs column k v h l p below j m n = go (ℕ_discrete j k)
+pub raised_next : (P : ℕ → ℤ → Type 0) → ((j : ℕ) (c d : ℤ) → c ≤ℤ d → P j c → P j d) → (xs : List ℤ) (k : ℕ) (v : ℤ) → k < length xs → at xs k ≤ℤ v
+    → P k v → ((j : ℕ) → j < k → P j (at xs j)) → (j : ℕ) → j < k + 1 → P j (at (set xs k v) j)
+raised_next P stays xs k v h l p below j m = go (ℕ_discrete j k)
   where
     go : Dec (j ≡ k) → P j (at (set xs k v) j)
     go (yes e) = rw (e, get_or-set_same xs k v (pos 0) h) p
-    go (no d) = stays j _ _ ((raised_set xs k v h l).rise j) (below j m (omega arith))
+    go (no d) = stays j _ _ ((raised_set xs k v h l).rise j) (below j (omega arith))
+
+-- a section of the bounds, raised to ys
+module _ (xs ys : List ℤ) (a n : ℕ) (room : a + n ≤ length xs) (raised : Raised (part xs a n) ys) where
+  abbrev after : List ℤ
+  after = put_mid a n xs ys
+
+  many : length ys ≡ n
+  many = raised.words ∙ part_length xs a n room
+
+  -- before it, in it and behind it
+  pub section_before : (k : ℕ) → k < a → at after k ≡ at xs k
+  section_before k h =
+      let e = take-put_mid_below a n xs ys a (omega arith) (omega arith) in
+      sym (get_or-take a after k (pos 0) h) ∙ ap (λ zs. at zs k) e ∙ get_or-take a xs k (pos 0) h
+
+  pub section_in : (k : ℕ) → k < n → at after (a + k) ≡ at ys k
+  section_in k h =
+      let count : a + n - a ≡ n = omega arith in
+      let e : part after a n ≡ ys = rw count at (between-put_mid a n xs ys (a + n) (omega arith) (omega (arith, many))) in
+      sym (at_part after a n k h) ∙ ap (λ zs. at zs k) e
+
+  section_behind : (k : ℕ) → a + n ≤ k → at after k ≡ at xs k
+  section_behind k h =
+      let e = drop-put_mid a n xs ys k h (omega arith) many in
+      let i : k + 0 ≡ k = omega arith in
+      rw i at (sym (get_or-drop k after 0 (pos 0)) ∙ ap (λ zs. at zs 0) e ∙ get_or-drop k xs 0 (pos 0))
+
+  pub section_raised : Raised xs after
+  section_raised = record { words = same_len_mid a n xs ys raised.words; rise = λ k. go k (dec_lt k a) (dec_lt k (a + n)) }
+    where
+      go : (k : ℕ) → Dec (k < a) → Dec (k < a + n) → at xs k ≤ℤ at after k
+      go k (yes h) _ = rw (section_before k h) (≤ℤ_refl (at xs k))
+      go k (no h) (yes l) =
+          let i : a + (k - a) ≡ k = omega arith in
+          let m : k - a < n = omega arith in
+          rw i at (rw (← section_in (k - a) m, at_part xs a n (k - a) m) at (raised.rise (k - a)))
+      go k (no h) (no l) = rw (section_behind k (omega arith)) (≤ℤ_refl (at xs k))
 
 -- ---- what the bounds settle
 
@@ -100,15 +140,15 @@ bound_reached c n h l = simp linear (omega (signed, simp linear at l))
 -- the bounds of tap k, of which there are four
 module _ (bounds : List ℤ) (taps k : ℕ) where
   abbrev first : ℤ
-  first = larger (at bounds k) (at bounds (taps + k))
+  first = int_max (at bounds k) (at bounds (taps + k))
 
   abbrev second : ℤ
-  second = larger (at bounds (2 * taps + k)) (at bounds (3 * taps + k))
+  second = int_max (at bounds (2 * taps + k)) (at bounds (3 * taps + k))
 
-  both : (first ≤ℤ larger first second) × (second ≤ℤ larger first second)
+  both : (first ≤ℤ int_max first second) × (second ≤ℤ int_max first second)
   both = at_least {x = first} {y = second} refl
 
-  four : (j : ℕ) → j < 4 → at bounds (j * taps + k) ≤ℤ larger first second
+  four : (j : ℕ) → j < 4 → at bounds (j * taps + k) ≤ℤ int_max first second
   four zero h = let e : 0 * taps + k ≡ k = omega arith in rw e (≤ℤ-trans (at_least {x = at bounds k} {y = at bounds (taps + k)} refl).0 both.0)
   four (suc zero) h = let e : 1 * taps + k ≡ taps + k = omega arith in rw e (≤ℤ-trans (at_least {x = at bounds k} {y = at bounds (taps + k)} refl).1 both.0)
   four (suc (suc zero)) h = ≤ℤ-trans (at_least {x = at bounds (2 * taps + k)} {y = at bounds (3 * taps + k)} refl).0 both.1
@@ -116,12 +156,12 @@ module _ (bounds : List ℤ) (taps k : ℕ) where
   four (suc (suc (suc (suc j)))) h = absurd (omega arith)
 
   -- where they bound the tap, each is a bound
-  bound_low : tap_bound bounds taps k ≤ 65536 → (larger first second <ℤ pos 32767) × (tap_bound bounds taps k ≡ nat_abs (larger first second) + 1)
+  bound_low : tap_bound bounds taps k ≤ 65536 → (int_max first second <ℤ pos 32767) × (tap_bound bounds taps k ≡ nat_abs (int_max first second) + 1)
   unfolding tap_bound
-  bound_low = go (lt_z (larger first second) (pos 32767)) refl
+  bound_low = go (lt_z (int_max first second) (pos 32767)) refl
     where
-      go : (t : Bool) → lt_z (larger first second) (pos 32767) ≡ t → cond t (nat_abs (larger first second) + 1) 65537 ≤ 65536
-          → (larger first second <ℤ pos 32767) × (cond t (nat_abs (larger first second) + 1) 65537 ≡ nat_abs (larger first second) + 1)
+      go : (t : Bool) → lt_z (int_max first second) (pos 32767) ≡ t → cond t (nat_abs (int_max first second) + 1) 65537 ≤ 65536
+          → (int_max first second <ℤ pos 32767) × (cond t (nat_abs (int_max first second) + 1) 65537 ≡ nat_abs (int_max first second) + 1)
       go true e l = (lt_yes e, refl)
       go false e l = absurd (omega arith)
 
@@ -129,7 +169,7 @@ module _ (bounds : List ℤ) (taps k : ℕ) where
   tap_word : tap_bound bounds taps k ≤ 65536 → (j : ℕ) → j < 4 → {x : ℤ} → Bounds (at bounds (j * taps + k)) x → (nat_abs x ≤ tap_bound bounds taps k) × (nat_abs x ≤ 32767)
   tap_word h j l {x} b =
       let m = bound_low h in
-      rw m.1 (bound_reached (larger first second) (nat_abs x) m.0 ((bounds_more (four j l) b).size m.0))
+      rw m.1 (bound_reached (int_max first second) (nat_abs x) m.0 ((bounds_more (four j l) b).size m.0))
 
 part_of : (n : ℕ) (f : ℕ → ℕ) (k : ℕ) → k < n → f k ≤ total n f
 unfolding total
@@ -168,7 +208,7 @@ module _ (b bounds : List ℤ) (rows M N : ℕ) (phases_are : M ≡ (sizes_of b)
   )
 
   -- the differences of every row but the last
-  module _ (tests : (p i : ℕ) → p + 1 < rows → i < 4 * N → Passed b (M * N) N (5 + p * (4 * N)) i (at bounds i)) where
+  module _ (tests : (p i : ℕ) → p + 1 < rows → i < 4 * N → Passed (at bounds i) (at b (5 + p * (4 * N) + M * N + i)) (at b (5 + p * (4 * N) + N + i)) (at b (5 + p * (4 * N) + i))) where
     abbrev right : ℕ → Bool
     right = right_at b (5 + M * N) (5 + N) 5
 

@@ -1,7 +1,9 @@
-pub mod Numbers
 pub mod Bounds
 pub mod Parts
 pub mod Runs
 pub mod Accepted
 pub mod Around
 pub mod ColumnBounds
+pub mod Whole
+pub mod Chained
+pub mod Sections

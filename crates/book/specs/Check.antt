@@ -3,7 +3,7 @@ use Rattle.std.specs.Prelude.{ℕ, suc, pred, ◌+◌, ◌*◌, ◌%◌, Bool, n
 use Rattle.arith.specs.Lists.{at}
 use Rattle.arith.specs.Sum.{total}
 use Rattle.arith.specs.Tests.{eq_z, within, every}
-use Rattle.book.specs.Number.{refuse, ◌otherwise◌}
+use Rattle.refusal.specs.Number.{refuse, ◌otherwise◌}
 use Rattle.book.specs.Book.{sizes_of, level_taps_at, book_length, impulse, difference, level_taps, decimation_taps}
 
 -- a power of two from 1 to 128

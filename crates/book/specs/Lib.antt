@@ -1,4 +1,3 @@
-pub mod Number
 pub mod Book
 pub mod Check
 pub mod BookK

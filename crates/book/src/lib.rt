@@ -1,19 +1,21 @@
 // The filter book: five sizes, impulses and differences by phase, level taps and decimation taps, as signed words.
-// `check` accepts a book or gives the number that turns it away.
+// `check` accepts a book or tells what turns it away.
 
 #![tactic(auto)]
 
-ghost use Rattle.std.specs.Prelude.{◌≡◌, ◌*◌, ◌≤◌, true, not, length, pos};
-ghost use Rattle.arith.specs.Tests.{eq_z};
-ghost use Rattle.book.specs.Number.{refuse, ◌otherwise◌};
-ghost use Rattle.book.specs.Book.{sizes_of, book_length, impulse, level_taps, decimation_taps};
-ghost use Rattle.book.specs.Check.{sizes_in_range, coefficients_in_range, differences_right, book_number};
+ghost use Rattle.std.specs.Prelude.{◌≡◌, ◌≤◌, true, length};
+ghost use Rattle.book.specs.Book.{sizes_of, level_taps, decimation_taps};
+ghost use Rattle.book.specs.Check.{book_number};
 ghost use Rattle.book.specs.Inner.{HalfBand};
+ghost use Rattle.refusal.specs.Number.{number_of};
 
+use crate::places::Parts;
 use arith::words::word_size;
+use refusal::Refusal;
 
+mod places; // numbers 1 to 3, and where the parts lie
 mod columns; // numbers 4, 6 and 7 of the usual book
-mod differences; // number 6
+mod differences; // numbers 5 and 6
 mod ranges; // numbers 2 and 4
 mod sums; // number 7
 
@@ -46,76 +48,41 @@ pub fn read_sizes(book: &[i32]) -> Sizes
     }
 }
 
-// Number 5.
-fn zero_number(book: &[i32]) -> u32
-    requires { (sizes_in_range book.now ≡ true) × (length book.now ≡ book_length (sizes_of book.now)) }
-    ensures { result ≡ refuse 5 (not (eq_z (impulse book.now 0 0) (pos 0))) }
+// Accepts a book, or tells the first of the numbers 1 to 7 whose condition holds.
+pub fn check(book: &[i32]) -> Result<(), Refusal>
+    ensures { number_of result ≡ book_number book.now }
 {
-    if book[5] != 0 { 5 } else { 0 }
+    let parts = Parts::of(book)?;
+    if columns::settled(&parts) {
+        return differences::check_first_impulse(&parts);
+    }
+    if !ranges::coefficients_in_range(&parts) {
+        return Err(Refusal::BookCoefficient);
+    }
+    differences::check_impulses(&parts)?;
+    if !sums::sums_in_range(&parts) {
+        return Err(Refusal::BookSum);
+    }
+    Ok(())
 }
 
-// Numbers 5 and 6, of a book without number 4.
-fn impulse_number(book: &[i32], array: usize, taps: usize) -> u32
-    requires book_value { (sizes_in_range book.now ≡ true) × (length book.now ≡ book_length (sizes_of book.now)) }
-    requires array_value { (array ≡ (sizes_of book.now).phases * (sizes_of book.now).taps) × (taps ≡ (sizes_of book.now).taps) }
-    requires book_value_2 { coefficients_in_range book.now ≡ true }
-    ensures { result ≡ (refuse 5 (not (eq_z (impulse book.now 0 0) (pos 0))) otherwise refuse 6 (not (differences_right book.now))) }
+// The parts of an accepted book.
+fn parts_of(book: &[i32]) -> Parts<'_>
+    requires { book_number book.now ≡ 0 }
+    ensures { result.words.now ≡ book.now }
 {
-    let number = zero_number(book);
-    if number != 0 {
-        return number;
+    Parts {
+        words: book,
+        sizes: read_sizes(book),
     }
-    if differences::differences_right(book, array, taps, 0) {
-        return 0;
-    }
-    6
 }
 
-// 0 where the book is accepted, else the first of the numbers 1 to 7 whose condition holds.
-pub fn check(book: &[i32]) -> u32
-    ensures { result ≡ book_number book.now }
-{
-    if book.len() < 5 {
-        return 1;
-    }
-    if !ranges::sizes_in_range(book) {
-        return 2;
-    }
-    let s = read_sizes(book);
-    let taps = s.taps;
-    let phases = s.phases;
-    let array = phases * taps;
-    let level_taps = 5 + array + array;
-    let decimation_taps = level_taps + (s.reach + 1);
-    if book.len() != decimation_taps + (s.decimation + 1) {
-        return 3;
-    }
-    if columns::settled(book, phases, taps, level_taps, decimation_taps) {
-        return zero_number(book);
-    }
-    if !ranges::coefficients_in_range(book, array) {
-        return 4;
-    }
-    let number = impulse_number(book, array, taps);
-    if number != 0 {
-        return number;
-    }
-    if !sums::sums_in_range(book, phases, taps, level_taps, decimation_taps) {
-        return 7;
-    }
-    0
-}
-
-// The level taps h[0] .. h[A] of an accepted book.
+// The level taps h[0] .. h[A] of an accepted book. That it is accepted is a clause, as public promises have it: callers hold a book as words.
 pub fn level_taps(book: &[i32]) -> &[i32]
     requires { book_number book.now ≡ 0 }
     ensures { result.now ≡ level_taps book.now }
 {
-    let s = read_sizes(book);
-    let array = s.phases * s.taps;
-    let start = 5 + array + array;
-    let end = start + (s.reach + 1);
-    &book[start..end]
+    parts_of(book).level_taps()
 }
 
 // The decimation taps g[0] .. g[B] of an accepted book: all that lies behind the level taps.
@@ -123,22 +90,12 @@ pub fn decimation_taps(book: &[i32]) -> &[i32]
     requires { book_number book.now ≡ 0 }
     ensures { result.now ≡ decimation_taps book.now }
 {
-    let s = read_sizes(book);
-    let array = s.phases * s.taps;
-    let start = 5 + array + array + (s.reach + 1);
-    &book[start..]
+    parts_of(book).decimation_taps()
 }
 
 // Whether taps are half-band: those at an even distance from the centre are 0.
 pub fn half_band(taps: &[i32]) -> bool
     ensures { (result ≡ true → HalfBand taps.now) × (HalfBand taps.now → result ≡ true) }
 {
-    let mut k = 2;
-    while k < taps.len() {
-        if taps[k] != 0 {
-            return false;
-        }
-        k += 2;
-    }
-    true
+    taps.iter().skip(2).step_by(2).all(|tap| *tap == 0)
 }

@@ -2,33 +2,32 @@
 
 ghost use Rattle.std.specs.Prelude.{◌≡◌, ◌≤◌, true, ◌&&◌, leb, length, nat_le};
 ghost use Rattle.arith.specs.Tests.{every};
-ghost use Rattle.book.specs.Book.{sizes_of, level_taps_at, decimation_taps_at, book_length, level_taps, decimation_taps};
-ghost use Rattle.book.specs.Check.{sizes_in_range, coefficients_in_range, phase_sum, tap_sum, sums_in_range};
+ghost use Rattle.book.specs.Book.{level_taps, decimation_taps};
+ghost use Rattle.book.specs.Check.{coefficients_in_range, phase_sum, tap_sum, sums_in_range};
 
-use arith::words::word_size;
+use crate::places::Parts;
 
-// Whether every phase's sum is at most 65536. The check stops at the first phase whose sum is too large. Impulses in
-// range have sums that 32 bits hold.
-fn phases_in_range(book: &[i32], phases: usize, taps: usize) -> bool
-    requires book_value { (sizes_in_range book.now ≡ true) × (length book.now ≡ book_length (sizes_of book.now)) }
-    requires phases_value { (phases ≡ (sizes_of book.now).phases) × (taps ≡ (sizes_of book.now).taps) }
-    requires book_value_2 { coefficients_in_range book.now ≡ true }
-    ensures { result ≡ every phases (λ q. leb (phase_sum book.now q) 65536) }
+// The largest sum of a phase.
+const PHASE_SUM: u32 = 65536;
+
+// Whether every phase's sum is at most that. The check stops at the first phase whose sum is too large: docs/DECISIONS.md names the loops and the label.
+// Impulses in range have sums that 32 bits hold.
+fn phases_in_range(book: &Parts) -> bool
+    requires { coefficients_in_range book.now.words.now ≡ true }
+    ensures { result ≡ every book.now.sizes.phases (λ q. leb (phase_sum book.now.words.now q) 65536) }
 {
+    let taps = book.sizes.taps;
+    let impulses = book.impulses();
     let mut right = true;
-    let mut q = 0;
-    'phases: while q < phases {
+    'phases: for q in 0..book.sizes.phases {
         let mut sum = 0;
-        let mut k = 0;
-        while k < taps {
-            sum += word_size(book, 5 + (q * taps + k)) as u32;
-            k += 1;
+        for k in 0..taps {
+            sum += impulses[q * taps + k].unsigned_abs();
         }
-        if 65536 < sum {
+        if PHASE_SUM < sum {
             right = false;
             break 'phases;
         }
-        q += 1;
     }
     right
 }
@@ -39,42 +38,23 @@ fn tap_sum(taps: &[i32]) -> usize
     ensures { result ≡ tap_sum taps.now }
 {
     let mut sum = 0;
-    let mut k = 1;
-    while k < taps.len() {
-        sum += word_size(taps, k);
-        k += 1;
+    for tap in &taps[1..] {
+        sum += tap.unsigned_abs() as usize;
     }
-    word_size(taps, 0) + 2 * sum
+    taps[0].unsigned_abs() as usize + 2 * sum
 }
 
-// Whether both sums of taps are at most `most`. The level taps lie from place `level` on, the decimation taps from place `decimation` on.
-pub(crate) fn tap_sums_within(book: &[i32], level: usize, decimation: usize, most: usize) -> bool
-    requires book_value { (sizes_in_range book.now ≡ true) × (length book.now ≡ book_length (sizes_of book.now)) }
-    requires level_value { (level ≡ level_taps_at (sizes_of book.now)) × (decimation ≡ decimation_taps_at (sizes_of book.now)) }
-    ensures { result ≡ nat_le (tap_sum (level_taps book.now)) most && nat_le (tap_sum (decimation_taps book.now)) most }
+// Whether both sums of taps are at most `most`.
+pub(crate) fn tap_sums_within(book: &Parts, most: usize) -> bool
+    ensures { result ≡ nat_le (tap_sum (level_taps book.now.words.now)) most && nat_le (tap_sum (decimation_taps book.now.words.now)) most }
 {
-    if most < tap_sum(&book[level..decimation]) {
-        return false;
-    }
-    tap_sum(&book[decimation..]) <= most
+    tap_sum(book.level_taps()) <= most && tap_sum(book.decimation_taps()) <= most
 }
 
 // Number 7.
-pub(crate) fn sums_in_range(
-    book: &[i32],
-    phases: usize,
-    taps: usize,
-    level: usize,
-    decimation: usize,
-) -> bool
-    requires book_value { (sizes_in_range book.now ≡ true) × (length book.now ≡ book_length (sizes_of book.now)) }
-    requires phases_value { (phases ≡ (sizes_of book.now).phases) × (taps ≡ (sizes_of book.now).taps) }
-    requires level_value { (level ≡ level_taps_at (sizes_of book.now)) × (decimation ≡ decimation_taps_at (sizes_of book.now)) }
-    requires book_value_2 { coefficients_in_range book.now ≡ true }
-    ensures { result ≡ sums_in_range book.now }
+pub(crate) fn sums_in_range(book: &Parts) -> bool
+    requires { coefficients_in_range book.now.words.now ≡ true }
+    ensures { result ≡ sums_in_range book.now.words.now }
 {
-    if !phases_in_range(book, phases, taps) {
-        return false;
-    }
-    tap_sums_within(book, level, decimation, 32768)
+    phases_in_range(book) && tap_sums_within(book, 32768)
 }

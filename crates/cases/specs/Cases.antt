@@ -7,7 +7,7 @@ use Rattle.arith.specs.Floor.{floor_div, even_of, nearest, near}
 use Rattle.arith.specs.Lists.{word_at, tabulate}
 use Rattle.arith.specs.Sum.{sum, total, sum_around}
 use Rattle.arith.specs.Tests.{eq_z, every}
-use Rattle.book.specs.Number.{refuse, ◌otherwise◌}
+use Rattle.refusal.specs.Number.{refuse, ◌otherwise◌}
 use Rattle.book.specs.Book.{sizes_of, differences_at, level_taps_at, decimation_taps_at, book_length, impulse_word, impulse, difference, level_taps, decimation_taps}
 use Rattle.book.specs.BookK.{book_with, book_k}
 use Rattle.book.specs.Check.{power_of_two, sizes_in_range, words_in_range, coefficients_in_range, differences_right, phase_sum, tap_sum, sums_in_range, book_number}
@@ -19,7 +19,7 @@ use Rattle.levels.specs.Levels.{first_level, level_of, levels_of}
 use Rattle.levels.specs.Build.{build_number, built_store, build_answer}
 use Rattle.player.specs.declared.Voice.{Voice}
 use Rattle.control.specs.declared.Order.TheVariants.{Jump, Glide}
-use Rattle.player.specs.declared.Answer.{Answer}
+use Rattle.player.specs.Calls.{Answer}
 use Rattle.control.specs.Rate.{rate_in_range, rate_of, octave_level, asked_level, advance}
 use Rattle.control.specs.Moves.{fresh_control, jumped, gliding, sought, glide_rate, glide_after, move_glide, fade_target, point_plan, fade_after, move_point, move_output}
 use Rattle.control.specs.Orders.{ordered}

@@ -3,9 +3,9 @@
 -- Assumes nothing.
 use mathlib.Core.Path.{◌≡◌, refl, sym, ap, ◌∙◌}
 use mathlib.Core.Bool.{Bool, true, false, not, ◌&&◌, ◌||◌, cond, true≢false}
-use Prim.Native.Nat.{ℕ, zero, suc, ◌+◌, ◌-◌, ◌*◌, ◌/◌, ◌%◌, ◌^◌, ◌≤◌, ◌<◌, min}
+use Prim.Native.Nat.{ℕ, zero, suc, ◌+◌, ◌-◌, ◌*◌, ◌/◌, ◌%◌, ◌^◌, ◌≤◌, ◌<◌, min, max}
 use native.Mathlib.Nat.{lt_of_lt_of_le, lt_of_not-le, mul_assoc, mul_right_comm, mul-one, one-mul, mul-div_cancel, mul-mod_left, mul-le-mul_right, le-div_iff_mul-le, div-lt_iff_lt-mul, eq_of_mul-eq-mul_right}
-use native.Mathlib.Decide.{ℕ_discrete}
+use native.Mathlib.Decide.{ℕ_discrete, dec_lt}
 use native.Mathlib.Omega.{arith}
 use lib.IntN.{ℤ, pos, negsuc}
 use lib.Dec.{T, leb, ltb, eqb, ltb→lt, lit≤}
@@ -13,7 +13,7 @@ use lib.Pow.{pow-add, pow_pos, pow_mono, shl_lt}
 use lib.Ieee.{Float, nan, inf, fin, binary32, binary64, up, down, fits, is_nan, lt, le, mul, whole, in_unsigned, to_unsigned}
 use lib.Ieee.Fits.{down_pos, and_l, and_r, and_i, fits_widens}
 use lib.Ieee.Exact.{HasValue, round_exact}
-use borrow.Author.Tests.{eqb-true, leb-true, ltb-true, ltb-false, leb-false, le-leb, lt-ltb, eq-eqb, ne_eqb}
+use borrow.Author.Tests.{eqb-true, leb-true, ltb-true, ltb-false, leb-false, le-leb, le-ltb, lt-ltb, eq-eqb, ne_eqb}
 use Rattle.arith.proofs.Tests.{&&-left, &&-right}
 use Rattle.control.specs.Rate.{rate_in_range, rate_of, octave_level}
 
@@ -181,3 +181,29 @@ octave-≤ R top u = go (ℕ_discrete (octave_level R) 0)
     go : Dec (octave_level R ≡ 0) → octave_level R ≤ top
     go (yes z) = omega (arith, z)
     go (no n) = omega (arith, exponent_below (27 + octave_level R) (28 + top) ((octave_ends R).0 n) u)
+
+-- the whole part of log2 r, from 0 to 4, of m, the whole part of r or 1
+pub octave_is : (R m e : ℕ) → m ≡ max (R / 2 ^ 27) 1 → 2 ^ e ≤ m → m < 2 * 2 ^ e → min e 4 ≡ octave_level R
+unfolding octave_level
+octave_is R m e i l u = go (dec_lt R (2 ^ 28)) (dec_lt R (2 ^ 29)) (dec_lt R (2 ^ 30)) (dec_lt R (2 ^ 31))
+  where
+    next : m < 2 ^ suc e
+    next = omega arith
+
+    go : Dec (R < 2 ^ 28) → Dec (R < 2 ^ 29) → Dec (R < 2 ^ 30) → Dec (R < 2 ^ 31) → min e 4 ≡ cond (ltb R (2 ^ 28)) 0 (cond (ltb R (2 ^ 29)) 1 (cond (ltb R (2 ^ 30)) 2 (cond (ltb R (2 ^ 31)) 3 4)))
+    go (yes a) b c d = let high = exponent_below e 1 l (omega arith) in simp (lt-ltb R (2 ^ 28) a) (omega arith)
+    go (no a) (yes b) c d =
+        let low = exponent_below 1 (suc e) (omega arith) next in
+        let high = exponent_below e 2 l (omega arith) in
+        simp (le-ltb R (2 ^ 28) (omega arith), lt-ltb R (2 ^ 29) b) (omega arith)
+    go (no a) (no b) (yes c) d =
+        let low = exponent_below 2 (suc e) (omega arith) next in
+        let high = exponent_below e 3 l (omega arith) in
+        simp (le-ltb R (2 ^ 28) (omega arith), le-ltb R (2 ^ 29) (omega arith), lt-ltb R (2 ^ 30) c) (omega arith)
+    go (no a) (no b) (no c) (yes d) =
+        let low = exponent_below 3 (suc e) (omega arith) next in
+        let high = exponent_below e 4 l (omega arith) in
+        simp (le-ltb R (2 ^ 28) (omega arith), le-ltb R (2 ^ 29) (omega arith), le-ltb R (2 ^ 30) (omega arith), lt-ltb R (2 ^ 31) d) (omega arith)
+    go (no a) (no b) (no c) (no d) =
+        let low = exponent_below 4 (suc e) (omega arith) next in
+        simp (le-ltb R (2 ^ 28) (omega arith), le-ltb R (2 ^ 29) (omega arith), le-ltb R (2 ^ 30) (omega arith), le-ltb R (2 ^ 31) (omega arith)) (omega arith)

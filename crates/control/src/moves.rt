@@ -1,7 +1,7 @@
 // What moves a voice: the glide before an output, the fade and the position at each point.
 
 ghost use Rattle.std.specs.Prelude.{◌≡◌, ◌^◌, ◌≤◌, ◌<◌};
-ghost use Rattle.control.specs.Moves.{no_glide, glide_rate, glide_after, move_glide, fade_target, point_plan, fade_after, move_point};
+ghost use Rattle.control.specs.Moves.{glide_rate, glide_after, move_glide, fade_target, point_plan, fade_after, move_point};
 ghost use Rattle.control.specs.Valid.{GlideValid};
 
 use crate::rate::{advanced, asked_level};
@@ -18,31 +18,14 @@ fn glide_rate(g: Glide, j: u32) -> u64
     (start + arith::floor_div(way, count)) as u64
 }
 
-// No glide.
-pub fn no_glide() -> Glide
-    ensures { result ≡ no_glide }
-{
-    Glide {
-        start: 0,
-        target: 0,
-        count: 0,
-        done: 0,
-    }
-}
-
 // A glide after its output j: at rest after the last.
 pub fn glide_after(g: Glide, j: u32) -> Glide
     ensures { result ≡ glide_after g j }
 {
     if j == g.count {
-        return no_glide();
+        return Glide::NONE;
     }
-    Glide {
-        start: g.start,
-        target: g.target,
-        count: g.count,
-        done: j,
-    }
+    Glide { done: j, ..g }
 }
 
 // One output more of the glide.
@@ -55,19 +38,15 @@ pub fn glide_moved(c: Control) -> Control
         return c;
     }
     let j = g.done + 1;
-    let rate = glide_rate(g, j);
-    let glide = glide_after(g, j);
-    let fade = c.fade;
     Control {
-        top: c.top,
-        fade,
-        rate,
-        glide,
-        position: c.position,
+        rate: glide_rate(g, j),
+        glide: glide_after(g, j),
+        ..c
     }
 }
 
-// The level that a point's fade goes to: on to its own where one runs, else to the one asked from the current level.
+// The level that a point's fade goes to: on to its own where one runs, else to the one asked from the current level. Here and below only the numbers that
+// are read are bounded, not `Valid` whole: that would ask more of callers.
 fn fade_target(c: Control) -> u32
     requires { c.fade.from ≤ 4 }
     ensures { result ≡ fade_target c }
@@ -83,20 +62,13 @@ pub fn point_plan(c: Control) -> Plan
     requires { (c.fade.from ≤ 4) × (c.fade.step < 2 ^ 31) }
     ensures { result ≡ point_plan c }
 {
-    let from = c.fade.from;
-    let to = fade_target(c);
-    if from == to {
-        return Plan {
-            old: from,
-            new: to,
-            step: 0,
-            position: c.position,
-        };
-    }
+    let old = c.fade.from;
+    let new = fade_target(c);
+    let step = if old == new { 0 } else { c.fade.step + 1 };
     Plan {
-        old: from,
-        new: to,
-        step: c.fade.step + 1,
+        old,
+        new,
+        step,
         position: c.position,
     }
 }
@@ -124,14 +96,9 @@ pub fn point_moved(c: Control, fade: u32) -> Control
     requires { (c.fade.from ≤ 4) × (c.fade.step < 2 ^ 31) }
     ensures { result ≡ move_point fade c }
 {
-    let next = fade_after(point_plan(c), fade);
-    let glide = c.glide;
-    let position = advanced(c.position, c.rate);
     Control {
-        top: c.top,
-        fade: next,
-        rate: c.rate,
-        glide,
-        position,
+        fade: fade_after(point_plan(c), fade),
+        position: advanced(c.position, c.rate),
+        ..c
     }
 }

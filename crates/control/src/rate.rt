@@ -5,7 +5,7 @@ ghost use Rattle.std.specs.Float.{fin};
 ghost use Rattle.control.specs.Rate.{rate_in_range, rate_of, octave_level, asked_level, advance};
 ghost use Rattle.control.specs.Inner.{band_of, in_band};
 
-// 2^(top + 1)
+// 2^(top + 1). A table: f32::from(2u16 << top) says no more.
 fn rate_end(top: u32) -> f32
     requires { top ≤ 4 }
     ensures { result ≡ fin false 1 (pos (top + 1)) }
@@ -24,11 +24,7 @@ pub fn rate_in_range(r: f32, top: u32) -> bool
     requires { top ≤ 4 }
     ensures { result ≡ rate_in_range r top }
 {
-    if 0.0625 <= r {
-        r < rate_end(top)
-    } else {
-        false
-    }
+    0.0625 <= r && r < rate_end(top)
 }
 
 // R = r × 2^27: in an f64 the product is exact, and the cast loses nothing.
@@ -44,54 +40,25 @@ pub fn scaled_rate(r: f32) -> u64
 pub fn octave_level(rate: u64) -> u32
     ensures { result ≡ octave_level rate }
 {
-    if rate < 268435456 {
-        return 0;
-    }
-    if rate < 536870912 {
-        return 1;
-    }
-    if rate < 1073741824 {
-        return 2;
-    }
-    if rate < 2147483648 {
-        return 3;
-    }
-    4
+    (rate / 134217728).max(1).ilog2().min(4)
 }
 
-// The rates at which a level stays: from `low` up to below `high`.
+// The rates at which a level stays: from `low` up to below `high`. No Range, which is not Copy and whose test takes references.
 #[derive(Clone, Copy)]
 pub struct Band {
     pub low: u64,
     pub high: u64,
 }
 
-// From 15/16 of the octave's start, and from 0 at level 0, up to below the next octave. A table, since a run looks both ends up once.
+// From 15/16 of the octave's start, and from 0 at level 0, up to below the next octave.
 pub fn band_of(level: u32) -> Band
     requires { level ≤ 4 }
     ensures { result ≡ band_of level }
 {
-    match level {
-        0 => Band {
-            low: 0,
-            high: 268435456,
-        },
-        1 => Band {
-            low: 251658240,
-            high: 536870912,
-        },
-        2 => Band {
-            low: 503316480,
-            high: 1073741824,
-        },
-        3 => Band {
-            low: 1006632960,
-            high: 2147483648,
-        },
-        _ => Band {
-            low: 2013265920,
-            high: 4294967296,
-        },
+    let low = if level == 0 { 0 } else { 15 << (23 + level) };
+    Band {
+        low,
+        high: 1 << (28 + level),
     }
 }
 
@@ -117,11 +84,5 @@ pub fn asked_level(current: u32, rate: u64) -> u32
 pub(crate) fn advanced(position: u64, rate: u64) -> u64
     ensures { result ≡ advance position rate }
 {
-    if 1152921504606846976 <= position {
-        return 1152921504606846976;
-    }
-    if 1152921504606846976 - position <= rate {
-        return 1152921504606846976;
-    }
-    position + rate
+    position.saturating_add(rate).min(1152921504606846976)
 }

@@ -1,2 +1,3 @@
 pub mod Sums
 pub mod Lines
+pub mod Lanes

@@ -18,9 +18,10 @@ use Rattle.arith.proofs.Lists.{at_part, at_outside}
 use Rattle.arith.proofs.Sum.{sum_around_ext}
 use Rattle.book.specs.Book.{sizes_of, decimation_taps}
 use Rattle.book.specs.Check.{tap_sum}
-use Rattle.book.proofs.Accepted.{Accepted, sizes_bounded, decimation_taps-length, decimation_taps-sum}
+use Rattle.book.proofs.Accepted.{Accepted, accepted, sizes_bounded, decimation_taps-length, decimation_taps-sum}
 use Rattle.book.proofs.Around.{before_inside, after_inside, around, around_one, around_more, around_bound, tap_bound_lem}
 use Rattle.arith.specs.Limit.{limit}
+use Rattle.decimation.specs.declared.Taps.{Taps}
 use Rattle.decimation.specs.Decimation.{output_sum, output}
 use Rattle.decimation.specs.Inner.{TapStep, Summable, centred_sum, sample_of, line_output}
 use Rattle.decimation.proofs.Sums.{output_sum_around}
@@ -141,21 +142,13 @@ module _ {taps line : List ℤ} {step : ℕ} (s : Summable taps step line) where
 
   -- ---- the sum of an output
 
-  -- x is the sum of output n
-  abbrev pub SumOf : ℕ → ℤ → Type 0
-  SumOf n x = x ≡ centred_sum taps line (126 - 2 * n + (length taps - 1))
+  pub centred_small : (centre : ℕ) → nat_abs (centred_sum taps line centre) ≤ 2 ^ 44
+  unfolding centred_sum
+  centred_small = all_small
 
-  module _ (n : ℕ) (x : ℤ) (e : SumOf n x) where
-    pub sum_small : nat_abs x ≤ 2 ^ 44
-    unfolding centred_sum
-    sum_small = rw e (all_small (126 - 2 * n + (length taps - 1)))
-
-    pub sum_fits : SFits w64 x
-    sum_fits = abs_fits w64 x (omega (arith, sum_small))
-
-    pub sample_is : sample_of x ≡ line_output taps line n
-    unfolding line_output
-    sample_is = ap sample_of e
+  pub sample_is : {x : ℤ} (n centre : ℕ) → x ≡ centred_sum taps line centre → centre ≡ 126 - 2 * n + (length taps - 1) → sample_of x ≡ line_output taps line n
+  unfolding line_output
+  sample_is n centre e m = ap sample_of (e ∙ ap (centred_sum taps line) m)
 
 -- ---- the outputs of a book
 
@@ -188,3 +181,6 @@ module _ (b taps line : List ℤ) (a : Accepted b) (e : taps ≡ decimation_taps
   pub output_is : (i : ℕ) → line_output taps line i ≡ output b (part line (126 - 2 * i) 81)
   unfolding line_output sample_of output
   output_is i = ap (λ x. limit (negsuc 32767) (pos 32767) (near x (2 ^ 22))) (sum_is (126 - 2 * i))
+
+pub fits : (t : Taps) (line : List ℤ) → ((k : ℕ) → nat_abs (at line k) ≤ 2 ^ 29) → Summable t.taps.now t.step line
+fits t line bound = summable t.book.now t.taps.now line (accepted t.book.now t.accepted) t.of_book t.stepped bound

@@ -2,7 +2,7 @@
 use Rattle.std.specs.Prelude.{List, ◌≡◌, ℕ, ◌+◌, ◌-◌, ◌*◌, ◌^◌, ◌≤◌, pred, ℤ, pos, negsuc, nat_abs, ◌+ℤ◌, ◌*ℤ◌, length}
 use Rattle.arith.specs.Floor.{near}
 use Rattle.arith.specs.Limit.{limit}
-use Rattle.arith.specs.Lists.{at, word_at}
+use Rattle.arith.specs.Lists.{at, word_at, tabulate, overwrite}
 use Rattle.arith.specs.Sum.{sum_around}
 use Rattle.book.specs.Check.{tap_sum}
 use Rattle.book.specs.Inner.{HalfBand}
@@ -32,3 +32,7 @@ sample_of x = limit (negsuc 32767) (pos 32767) (near x (2 ^ 22))
 -- output i of a run: the newest point that it reads stands at 126 − 2i
 unfoldable pub line_output : List ℤ → List ℤ → ℕ → ℤ
 line_output taps line i = sample_of (centred_sum taps line (126 - 2 * i + (length taps - 1)))
+
+-- words with n outputs in place of the first n
+abbrev pub first_outputs : List ℤ → ℕ → (ℕ → ℤ) → List ℤ
+first_outputs words n f = overwrite words 0 (tabulate n f)

@@ -2,93 +2,74 @@
 
 #![tactic(auto)]
 
-ghost use Rattle.std.specs.Prelude.{◌≡◌, ℕ, ◌+◌, ◌-◌, ◌*◌, ◌^◌, ◌≤◌, ◌<◌, nat_abs, ◌+ℤ◌, ◌*ℤ◌, length, set};
-ghost use Rattle.arith.specs.Lists.{at, part, tabulate, overwrite};
+ghost use Rattle.std.specs.Prelude.{◌≡◌, ℕ, ◌+◌, ◌-◌, ◌*◌, ◌/◌, ◌^◌, ◌≤◌, ◌<◌, nat_abs, ◌+ℤ◌, ◌*ℤ◌, length};
+ghost use Rattle.std.specs.Int.{div_ceil};
+ghost use Rattle.arith.specs.Lists.{at, part, tabulate};
 ghost use Rattle.book.specs.Book.{decimation_taps};
 ghost use Rattle.book.specs.Check.{book_number};
 ghost use Rattle.decimation.specs.Decimation.{output};
-ghost use Rattle.decimation.specs.Inner.{TapStep, Summable, centred_sum, sample_of, line_output};
+ghost use Rattle.decimation.specs.Inner.{TapStep, centred_sum, sample_of, line_output, first_outputs};
 
-// Four sums, each around a place two after the one before it.
+// A book's decimation taps, the step of the sums, half-band taps being passed by twos, and how many of them a sum passes behind the first.
 #[derive(Clone, Copy)]
-struct FourSums {
-    a: i64,
-    b: i64,
-    c: i64,
-    d: i64,
+pub struct Taps<'a> {
+    pub book: &'a [i32],
+    pub taps: &'a [i32],
+    step: usize,
+    passed: usize,
+    pub ghost accepted: { book_number book.now ≡ 0 },
+    pub ghost of_book: { taps.now ≡ decimation_taps book.now },
+    pub ghost stepped: { TapStep taps.now step },
+    pub ghost counted: { passed ≡ div_ceil (length taps.now - 1) step },
 }
 
-// The step of the sums: half-band taps are passed by twos.
-fn tap_step(taps: &[i32]) -> usize
-    ensures { TapStep taps.now result }
-{
-    if book::half_band(taps) {
-        return 2;
-    }
-    1
+// A line of points, small enough for the sums over them.
+#[derive(Clone, Copy)]
+struct Line<'a> {
+    points: &'a [i64; 209],
+    ghost small: { (k : ℕ) → nat_abs (at points.now k) ≤ 2 ^ 29 },
 }
 
-// A sum, and a tap times the points k before and k after place `centre`.
-fn tap_added(sum: i64, tap: i64, line: &[i64; 209], centre: usize, k: usize) -> i64
-    requires sum_bound { (nat_abs sum ≤ 2 ^ 44) × (nat_abs tap ≤ 32768) × (k ≤ centre) × (centre + k < 209) }
-    requires by_index { (k : ℕ) → nat_abs (at line.now k) ≤ 2 ^ 29 }
-    ensures { result ≡ sum +ℤ tap *ℤ (at line.now (centre - k) +ℤ at line.now (centre + k)) }
+// The first tap times the points at `centre` and at the places 2, 4, .. before it.
+fn first_sums<const LANES: usize>(tap: i64, line: Line<'_>, centre: usize) -> [i64; LANES]
+    requires in_line { (2 * LANES ≤ centre + 2) × (centre < 209) }
+    requires small { nat_abs tap ≤ 32768 }
+    ensures { (j : ℕ) → j < LANES → at result j ≡ tap *ℤ at line.entry.points.now (centre - 2 * j) }
 {
-    sum + tap * (line[centre - k] + line[centre + k])
-}
-
-// The sum around place `centre`.
-fn one_sum(line: &[i64; 209], taps: &[i32], step: usize, centre: usize) -> i64
-    requires { Summable taps.now step line.now × (length taps.now ≤ centre + 1) × (centre + length taps.now ≤ 209) }
-    ensures { result ≡ centred_sum taps.now line.now centre }
-{
-    let mut sum = taps[0] as i64 * line[centre];
-    let mut k = 1;
-    while k < taps.len() {
-        sum = tap_added(sum, taps[k] as i64, line, centre, k);
-        k += step;
-    }
-    sum
-}
-
-// The first tap times the points at `centre` and the places 2, 4 and 6 after it.
-fn first_sums(first: i64, line: &[i64; 209], centre: usize) -> FourSums
-    requires { (nat_abs first ≤ 32768) × (centre + 6 < 209) × ((k : ℕ) → nat_abs (at line.now k) ≤ 2 ^ 29) }
-    ensures { (result.a ≡ first *ℤ at line.now centre) × (result.b ≡ first *ℤ at line.now (centre + 2)) × (result.c ≡ first *ℤ at line.now (centre + 4)) × (result.d ≡ first *ℤ at line.now (centre + 6)) }
-{
-    let a = first * line[centre];
-    let b = first * line[centre + 2];
-    let c = first * line[centre + 4];
-    let d = first * line[centre + 6];
-    FourSums { a, b, c, d }
-}
-
-// Four sums, and a tap times the points k before and k after the place of each.
-fn taps_added(sums: FourSums, tap: i64, line: &[i64; 209], centre: usize, k: usize) -> FourSums
-    requires a_bound { (nat_abs sums.a ≤ 2 ^ 44) × (nat_abs sums.b ≤ 2 ^ 44) × (nat_abs sums.c ≤ 2 ^ 44) × (nat_abs sums.d ≤ 2 ^ 44) }
-    requires tap_bound { (nat_abs tap ≤ 32768) × (k ≤ centre) × (centre + 6 + k < 209) × ((k : ℕ) → nat_abs (at line.now k) ≤ 2 ^ 29) }
-    ensures a_value { (result.a ≡ sums.a +ℤ tap *ℤ (at line.now (centre - k) +ℤ at line.now (centre + k))) × (result.b ≡ sums.b +ℤ tap *ℤ (at line.now (centre + 2 - k) +ℤ at line.now (centre + 2 + k))) }
-    ensures c_value { (result.c ≡ sums.c +ℤ tap *ℤ (at line.now (centre + 4 - k) +ℤ at line.now (centre + 4 + k))) × (result.d ≡ sums.d +ℤ tap *ℤ (at line.now (centre + 6 - k) +ℤ at line.now (centre + 6 + k))) }
-{
-    let a = tap_added(sums.a, tap, line, centre, k);
-    let b = tap_added(sums.b, tap, line, centre + 2, k);
-    let c = tap_added(sums.c, tap, line, centre + 4, k);
-    let d = tap_added(sums.d, tap, line, centre + 6, k);
-    FourSums { a, b, c, d }
-}
-
-// The sums around `centre` and the places 2, 4 and 6 after it, with each tap read once for all four.
-fn four_sums(line: &[i64; 209], taps: &[i32], step: usize, centre: usize) -> FourSums
-    requires { Summable taps.now step line.now × (length taps.now ≤ centre + 1) × (centre + 6 + length taps.now ≤ 209) }
-    ensures { (result.a ≡ centred_sum taps.now line.now centre) × (result.b ≡ centred_sum taps.now line.now (centre + 2)) × (result.c ≡ centred_sum taps.now line.now (centre + 4)) × (result.d ≡ centred_sum taps.now line.now (centre + 6)) }
-{
-    let mut sums = first_sums(taps[0] as i64, line, centre);
-    let mut k = 1;
-    while k < taps.len() {
-        sums = taps_added(sums, taps[k] as i64, line, centre, k);
-        k += step;
+    let mut sums = [0i64; LANES];
+    for j in 0..LANES {
+        sums[j] = tap * line.points[centre - 2 * j];
     }
     sums
+}
+
+// A sum, and a tap times the points k before and k after place `centre`. A tap's bound stays a clause: it is read anew in each turn, so that a struct
+// would be built of one number, with the same to prove.
+fn tap_added(sum: i64, tap: i64, line: Line<'_>, centre: usize, k: usize) -> i64
+    requires in_line { (k ≤ centre) × (centre + k < 209) }
+    requires small { (nat_abs sum ≤ 2 ^ 44) × (nat_abs tap ≤ 32768) }
+    ensures { result ≡ sum +ℤ tap *ℤ (at line.entry.points.now (centre - k) +ℤ at line.entry.points.now (centre + k)) }
+{
+    sum + tap * (line.points[centre - k] + line.points[centre + k])
+}
+
+// Adds a tap times the points k before and k after the place of each sum.
+fn add_tap<const LANES: usize>(
+    sums: &mut [i64; LANES],
+    tap: i64,
+    line: Line<'_>,
+    centre: usize,
+    k: usize,
+)
+    requires in_line { (2 * LANES + k ≤ centre + 2) × (centre + k < 209) }
+    requires small { nat_abs tap ≤ 32768 }
+    requires sums_small { (j : ℕ) → j < LANES → nat_abs (at sums.old j) ≤ 2 ^ 44 }
+    ensures { (j : ℕ) → j < LANES
+        → at sums.new j ≡ at sums.old j +ℤ tap *ℤ (at line.entry.points.now (centre - 2 * j - k) +ℤ at line.entry.points.now (centre - 2 * j + k)) }
+{
+    for j in 0..LANES {
+        sums[j] = tap_added(sums[j], tap, line, centre - 2 * j, k);
+    }
 }
 
 // The output of a sum: rounded, and limited to 16 bits.
@@ -99,80 +80,78 @@ fn sample(sum: i64) -> i16
     arith::limit16(arith::near(sum, 2097152) as i32)
 }
 
-// Writes the output of a sum.
-fn write_sample(sum: i64, place: usize, out: &mut [i16])
-    requires { (nat_abs sum ≤ 2 ^ 44) × (place < length out.old) }
-    ensures { out.new ≡ set out.old place (sample_of sum) }
+// Writes the outputs of sums.
+fn write_samples<const LANES: usize>(sums: &[i64; LANES], out: &mut [i16])
+    requires long { LANES ≤ length out.old }
+    requires small { (j : ℕ) → j < LANES → nat_abs (at sums.now j) ≤ 2 ^ 44 }
+    ensures { out.new ≡ first_outputs out.old LANES (λ j. sample_of (at sums.now j)) }
 {
-    let x = sample(sum);
-    out[place] = x;
-}
-
-// Writes the first outputs of a run, four at a time, and says how many: at most three are left.
-fn write_fours(
-    line: &[i64; 209],
-    taps: &[i32],
-    step: usize,
-    count: usize,
-    start: usize,
-    out: &mut [i16],
-) -> usize
-    requires { Summable taps.now step line.now × (count ≤ 64) × (start + count ≤ length out.old) }
-    ensures { (result ≤ count) × (out.new ≡ overwrite out.old start (tabulate result (line_output taps.now line.now))) }
-{
-    let reach = taps.len() - 1;
-    let mut i = 0;
-    while i + 4 <= count {
-        let sums = four_sums(line, taps, step, 120 - 2 * i + reach);
-        let place = start + i;
-        write_sample(sums.d, place, out);
-        write_sample(sums.c, place + 1, out);
-        write_sample(sums.b, place + 2, out);
-        write_sample(sums.a, place + 3, out);
-        i += 4;
-    }
-    i
-}
-
-// Writes the outputs of a run from output `first` on.
-fn write_ones(
-    line: &[i64; 209],
-    taps: &[i32],
-    step: usize,
-    first: usize,
-    count: usize,
-    start: usize,
-    out: &mut [i16],
-)
-    requires { Summable taps.now step line.now × (first ≤ count) × (count ≤ 64) × (start + count ≤ length out.old) }
-    ensures { out.new ≡ overwrite out.old (start + first) (tabulate (count - first) (λ i. line_output taps.now line.now (first + i))) }
-{
-    let reach = taps.len() - 1;
-    let mut i = first;
-    while i < count {
-        write_sample(
-            one_sum(line, taps, step, 126 - 2 * i + reach),
-            start + i,
-            out,
-        );
-        i += 1;
+    for j in 0..LANES {
+        out[j] = sample(sums[j]);
     }
 }
 
-// Writes the outputs of a run of points; `taps` are the book's decimation taps.
-pub fn write_outputs(
-    book: &[i32],
-    taps: &[i32],
-    line: &[i64; 209],
-    count: usize,
-    start: usize,
-    out: &mut [i16],
-)
-    requires book_value { (book_number book.now ≡ 0) × (taps.now ≡ decimation_taps book.now) × (count ≤ 64) × (start + count ≤ length out.old) }
-    requires by_index { (k : ℕ) → nat_abs (at line.now k) ≤ 2 ^ 29 }
-    ensures { out.new ≡ overwrite out.old start (tabulate count (λ i. output book.now (part line.now (126 - 2 * i) 81))) }
-{
-    let step = tap_step(taps);
-    let first = write_fours(line, taps, step, count, start, out);
-    write_ones(line, taps, step, first, count, start, out);
+impl<'a> Taps<'a> {
+    // Those of an accepted book.
+    pub fn of(book: &'a [i32]) -> Taps<'a>
+        requires { book_number book.now ≡ 0 }
+        ensures { result.book.now ≡ book.now }
+    {
+        let taps = book::decimation_taps(book);
+        if book::half_band(taps) {
+            return Taps {
+                book,
+                taps,
+                step: 2,
+                passed: taps.len() / 2,
+            };
+        }
+        Taps {
+            book,
+            taps,
+            step: 1,
+            passed: taps.len() - 1,
+        }
+    }
+
+    // The sums of LANES outputs, the first around place `centre` and each two before the last: every tap is read once for all.
+    fn sums<const LANES: usize>(self, line: Line<'_>, centre: usize) -> [i64; LANES]
+        requires in_line { (2 * LANES + length self.taps.now ≤ centre + 3) × (centre + length self.taps.now ≤ 209) }
+        ensures { (j : ℕ) → j < LANES → at result j ≡ centred_sum self.entry.taps.now line.entry.points.now (centre - 2 * j) }
+    {
+        let taps = self.taps;
+        let mut sums = first_sums::<LANES>(taps[0] as i64, line, centre);
+        // counted, since step_by makes two tests a turn and saves four numbers: 1.05 of the player's time at B = 10
+        for i in 0..self.passed {
+            let k = 1 + self.step * i;
+            add_tap(&mut sums, taps[k] as i64, line, centre, k);
+        }
+        sums
+    }
+
+    // Writes the outputs of a run from its output `first` on, LANES at a time, as often as there is room for them.
+    fn write_lanes<const LANES: usize>(self, line: Line<'_>, first: usize, out: &mut [i16])
+        requires few { (1 ≤ LANES) × (LANES ≤ 64) × (first + length out.old ≤ 64) }
+        ensures { out.new ≡ first_outputs out.old (LANES * (length out.old / LANES))
+            (λ i. line_output self.entry.taps.now line.entry.points.now (first + i)) }
+    {
+        let newest = 126 + self.taps.len() - 1;
+        for turn in 0..out.len() / LANES {
+            let i = LANES * turn;
+            let sums = self.sums::<LANES>(line, newest - 2 * (first + i));
+            write_samples(&sums, &mut out[i..i + LANES]);
+        }
+    }
+
+    // Writes the outputs of a run of points: four at a time, and then those that are left.
+    pub fn write_outputs(self, line: &[i64; 209], out: &mut [i16])
+        requires few { length out.old ≤ 64 }
+        requires small { (k : ℕ) → nat_abs (at line.now k) ≤ 2 ^ 29 }
+        ensures { out.new ≡ tabulate (length out.old) (λ i. output self.entry.book.now (part line.now (126 - 2 * i) 81)) }
+    {
+        let line = Line { points: line };
+        let fours = 4 * (out.len() / 4);
+        self.write_lanes::<4>(line, 0, out);
+        self.write_lanes::<1>(line, fours, &mut out[fours..]);
+    }
 }

@@ -19,12 +19,10 @@ pub record Summable (words : List ℤ) (a : ℕ) (table : List ℤ) (r W : ℕ) 
   pub table_room : r + W ≤ length table
   pub fits : (n : ℕ) → n ≤ W → Fits32 (dot_sum words a table r n)
 
--- n places at which x is summed over the rows, and y over the rows behind them
-pub record Readable (x y table : List ℤ) (W n : ℕ) (rows firsts : List ℕ) : Type 0 where
-  pub rows_room : n ≤ length rows
-  pub firsts_room : n ≤ length firsts
-  pub here : (k : ℕ) → k < n → Summable x (get_or firsts k 0) table (get_or rows k 0) W
-  pub next : (k : ℕ) → k < n → Summable y (get_or firsts k 0) table (get_or rows k 0 + W) W
+-- places at which x is summed over the rows, and y over the rows behind them
+pub record Readable (x y table : List ℤ) (W : ℕ) (rows firsts : List ℕ) : Type 0 where
+  pub here : (k : ℕ) → k < length rows → Summable x (get_or firsts k 0) table (get_or rows k 0) W
+  pub next : (k : ℕ) → k < length rows → Summable y (get_or firsts k 0) table (get_or rows k 0 + W) W
 
 -- those sums at place k
 abbrev pub sum_here : List ℤ → List ℤ → ℕ → List ℕ → List ℕ → ℕ → ℤ

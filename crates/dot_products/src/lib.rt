@@ -1,24 +1,26 @@
-// Sums of 16-bit products, and the values that they make. The width of a row is a constant where a loop is called, and no two sums of one loop read
-// the same numbers: only then does the compiler take eight products at a time.
+// Sums of 16-bit products, and the values that they make. The width W of a row is a constant, and no two sums of one loop read the same numbers: only
+// then does the compiler take eight products at a time.
 
 #![tactic(auto)]
 
 ghost use Rattle.std.specs.Prelude.{◌≡◌, ℕ, suc, ◌-◌, ◌%◌, ◌^◌, ◌≤◌, ◌<◌, pos, ◌*ℤ◌, length, get_or};
-ghost use Rattle.arith.specs.Lists.{at, tabulate, overwrite};
+ghost use Rattle.arith.specs.Lists.{at, tabulate};
 ghost use Rattle.dot_products.specs.Sums.{dot_sum, Summable, Readable, sum_here, sum_next, mixed_value, PartSums, parts_value};
 
+pub mod places; // where coefficients and words begin
+
+use crate::places::Places;
 use arith::{near, near_parts};
 
-// The sum of `width` words from place `first` on times coefficients from place `row` on.
-fn dot(words: &[i16], first: usize, table: &[i16], row: usize, width: usize) -> i32
-    requires { Summable words.now first table.now row width }
-    ensures { result ≡ dot_sum words.now first table.now row width }
+// The sum of W words times coefficients. In line always: a sum of 32 that is called makes a play of 24 taps 5 % slower.
+#[inline(always)]
+fn dot<const W: usize>(words: &[i16], coefficients: &[i16]) -> i32
+    requires { Summable words.now 0 coefficients.now 0 W }
+    ensures { result ≡ dot_sum words.now 0 coefficients.now 0 W }
 {
     let mut sum: i32 = 0;
-    let mut k = 0;
-    while k < width {
-        sum += words[first + k] as i32 * table[row + k] as i32;
-        k += 1;
+    for k in 0..W {
+        sum += words[k] as i32 * coefficients[k] as i32;
     }
     sum
 }
@@ -53,171 +55,98 @@ fn part_value(high1: i32, low1: i32, high2: i32, low2: i32, offset: u64) -> i64
     )
 }
 
-// The sums of x over the rows, and of y over the rows behind them.
-fn first_sums_by(
+// The sums of x over the rows, and of y over the rows behind them. Words and table stand in no struct: high and low parts go with the table in this order
+// here and in the other one below, so that a struct of them would be made for each call alone.
+pub fn first_sums<const W: usize>(
     one: &mut [i32],
     two: &mut [i32],
-    count: usize,
     x: &[i16],
     y: &[i16],
     table: &[i16],
-    rows: &[u32],
-    firsts: &[u32],
-    width: usize,
+    places: &Places,
 )
-    requires { (count ≤ length one.old) × (count ≤ length two.old) × Readable x.now y.now table.now width count rows.now firsts.now }
-    ensures { (k : ℕ) → k < count → (at one.new k ≡ sum_here x.now table.now width rows.now firsts.now k) × (at two.new k ≡ sum_next y.now table.now width rows.now firsts.now k) }
+    requires room { (length places.now.rows.now ≤ length one.old) × (length places.now.rows.now ≤ length two.old) }
+    requires readable { Readable x.now y.now table.now W places.now.rows.now places.now.firsts.now }
+    ensures { (k : ℕ) → k < length places.now.rows.now
+        → (at one.new k ≡ sum_here x.now table.now W places.now.rows.now places.now.firsts.now k)
+        × (at two.new k ≡ sum_next y.now table.now W places.now.rows.now places.now.firsts.now k) }
 {
-    let mut k = 0;
-    while k < count {
-        let first = firsts[k] as usize;
-        let row = rows[k] as usize;
-        one[k] = dot(x, first, table, row, width);
-        two[k] = dot(y, first, table, row + width, width);
-        k += 1;
+    for k in 0..places.rows.len() {
+        let first = places.firsts[k] as usize;
+        let row = places.rows[k] as usize;
+        one[k] = dot::<W>(&x[first..], &table[row..]);
+        two[k] = dot::<W>(&y[first..], &table[row + W..]);
     }
 }
 
-// The same, the width being one of three constants.
-pub fn first_sums(
-    one: &mut [i32],
-    two: &mut [i32],
-    count: usize,
-    x: &[i16],
-    y: &[i16],
-    table: &[i16],
-    rows: &[u32],
-    firsts: &[u32],
-    width: usize,
-)
-    requires { (count ≤ length one.old) × (count ≤ length two.old) × Readable x.now y.now table.now width count rows.now firsts.now }
-    ensures { (k : ℕ) → k < count → (at one.new k ≡ sum_here x.now table.now width rows.now firsts.now k) × (at two.new k ≡ sum_next y.now table.now width rows.now firsts.now k) }
-{
-    match width {
-        8 => first_sums_by(one, two, count, x, y, table, rows, firsts, 8),
-        16 => first_sums_by(one, two, count, x, y, table, rows, firsts, 16),
-        32 => first_sums_by(one, two, count, x, y, table, rows, firsts, 32),
-        _ => first_sums_by(one, two, count, x, y, table, rows, firsts, width),
-    }
-}
-
-// The values of words in two parts, written to a line, newest first. `one` has the sums of the high parts over the rows, `two` those of the low parts over
-// the rows behind them.
-fn part_values_by(
+// The values of words in two parts, newest first. `one` has the sums of the high parts over the rows, `two` those of the low parts over the rows behind
+// them.
+pub fn part_values<const W: usize>(
     line: &mut [i64],
-    end: usize,
-    count: usize,
     one: &[i32],
     two: &[i32],
     low: &[i16],
     high: &[i16],
     table: &[i16],
-    rows: &[u32],
-    firsts: &[u32],
-    offsets: &[u32],
-    width: usize,
+    places: &Places,
 )
-    requires count_le_end { (count ≤ end) × (end ≤ length line.old) × (count ≤ length one.now) × (count ≤ length two.now) × Readable low.now high.now table.now width count rows.now firsts.now }
-    requires count_in_bounds { (count ≤ length offsets.now) × ((k : ℕ) → k < count → PartSums (at one.now k) (sum_here low.now table.now width rows.now firsts.now k) (sum_next high.now table.now width rows.now firsts.now k) (at two.now k) (get_or offsets.now k 0)) }
-    ensures { line.new ≡ overwrite line.old (end - count) (tabulate count (λ j. parts_value (at one.now (count - suc j)) (sum_here low.now table.now width rows.now firsts.now (count - suc j)) (sum_next high.now table.now width rows.now firsts.now (count - suc j)) (at two.now (count - suc j)) (get_or offsets.now (count - suc j) 0))) }
+    requires room { (length line.old ≡ length places.now.rows.now)
+        × (length places.now.rows.now ≤ length one.now)
+        × (length places.now.rows.now ≤ length two.now) }
+    requires readable { Readable low.now high.now table.now W places.now.rows.now places.now.firsts.now }
+    requires sums { (k : ℕ) → k < length places.now.rows.now
+        → PartSums
+        (at one.now k)
+        (sum_here low.now table.now W places.now.rows.now places.now.firsts.now k)
+        (sum_next high.now table.now W places.now.rows.now places.now.firsts.now k)
+        (at two.now k)
+        (get_or places.now.offsets.now k 0) }
+    ensures { let n = length places.now.rows.now in
+        line.new ≡ tabulate n (λ j.
+        parts_value
+        (at one.now (n - suc j))
+        (sum_here low.now table.now W places.now.rows.now places.now.firsts.now (n - suc j))
+        (sum_next high.now table.now W places.now.rows.now places.now.firsts.now (n - suc j))
+        (at two.now (n - suc j))
+        (get_or places.now.offsets.now (n - suc j) 0)) }
 {
-    let mut k = 0;
-    while k < count {
-        let first = firsts[k] as usize;
-        let row = rows[k] as usize;
-        let base = dot(low, first, table, row, width);
-        let next = dot(high, first, table, row + width, width);
-        let value = part_value(one[k], base, next, two[k], offsets[k] as u64);
-        line[end - 1 - k] = value;
-        k += 1;
+    let count = places.rows.len();
+    for k in 0..count {
+        let first = places.firsts[k] as usize;
+        let row = places.rows[k] as usize;
+        let base = dot::<W>(&low[first..], &table[row..]);
+        let next = dot::<W>(&high[first..], &table[row + W..]);
+        let value = part_value(one[k], base, next, two[k], places.offsets[k] as u64);
+        line[count - 1 - k] = value;
     }
 }
 
-// The values of words that are samples × 256, given twice, written to a line, newest first.
-fn sample_values_by(
+// The values of words that are samples × 256, given twice, newest first. The loop is that of part_values, whose values need two sums more: one loop with
+// a closure for the value would say in its contract, of any closure, what stands here plainly, beside both of these.
+pub fn sample_values<const W: usize>(
     line: &mut [i64],
-    end: usize,
-    count: usize,
     x: &[i16],
     y: &[i16],
     table: &[i16],
-    rows: &[u32],
-    firsts: &[u32],
-    offsets: &[u32],
-    width: usize,
+    places: &Places,
 )
-    requires count_le_end { (count ≤ end) × (end ≤ length line.old) × Readable x.now y.now table.now width count rows.now firsts.now }
-    requires count_in_bounds { (count ≤ length offsets.now) × ((k : ℕ) → k < count → (get_or offsets.now k 0 < 2 ^ 32) × (get_or offsets.now k 0 % 16 ≡ 0)) }
-    ensures { line.new ≡ overwrite line.old (end - count) (tabulate count (λ j. mixed_value (sum_here x.now table.now width rows.now firsts.now (count - suc j) *ℤ pos 256) (sum_next y.now table.now width rows.now firsts.now (count - suc j) *ℤ pos 256) (get_or offsets.now (count - suc j) 0))) }
+    requires room { length line.old ≡ length places.now.rows.now }
+    requires readable { Readable x.now y.now table.now W places.now.rows.now places.now.firsts.now }
+    requires offsets { (k : ℕ) → k < length places.now.rows.now → (get_or places.now.offsets.now k 0 < 2 ^ 32) × (get_or places.now.offsets.now k 0 % 16 ≡ 0) }
+    ensures { let n = length places.now.rows.now in
+        line.new ≡ tabulate n (λ j.
+        mixed_value
+        (sum_here x.now table.now W places.now.rows.now places.now.firsts.now (n - suc j) *ℤ pos 256)
+        (sum_next y.now table.now W places.now.rows.now places.now.firsts.now (n - suc j) *ℤ pos 256)
+        (get_or places.now.offsets.now (n - suc j) 0)) }
 {
-    let mut k = 0;
-    while k < count {
-        let first = firsts[k] as usize;
-        let row = rows[k] as usize;
-        let base = dot(x, first, table, row, width);
-        let next = dot(y, first, table, row + width, width);
-        let value = sample_value(base, next, offsets[k] as u64);
-        line[end - 1 - k] = value;
-        k += 1;
-    }
-}
-
-// The same, the width being one of three constants.
-pub fn part_values(
-    line: &mut [i64],
-    end: usize,
-    count: usize,
-    one: &[i32],
-    two: &[i32],
-    low: &[i16],
-    high: &[i16],
-    table: &[i16],
-    rows: &[u32],
-    firsts: &[u32],
-    offsets: &[u32],
-    width: usize,
-)
-    requires count_le_end { (count ≤ end) × (end ≤ length line.old) × (count ≤ length one.now) × (count ≤ length two.now) × Readable low.now high.now table.now width count rows.now firsts.now }
-    requires count_in_bounds { (count ≤ length offsets.now) × ((k : ℕ) → k < count → PartSums (at one.now k) (sum_here low.now table.now width rows.now firsts.now k) (sum_next high.now table.now width rows.now firsts.now k) (at two.now k) (get_or offsets.now k 0)) }
-    ensures { line.new ≡ overwrite line.old (end - count) (tabulate count (λ j. parts_value (at one.now (count - suc j)) (sum_here low.now table.now width rows.now firsts.now (count - suc j)) (sum_next high.now table.now width rows.now firsts.now (count - suc j)) (at two.now (count - suc j)) (get_or offsets.now (count - suc j) 0))) }
-{
-    match width {
-        8 => part_values_by(
-            line, end, count, one, two, low, high, table, rows, firsts, offsets, 8,
-        ),
-        16 => part_values_by(
-            line, end, count, one, two, low, high, table, rows, firsts, offsets, 16,
-        ),
-        32 => part_values_by(
-            line, end, count, one, two, low, high, table, rows, firsts, offsets, 32,
-        ),
-        _ => part_values_by(
-            line, end, count, one, two, low, high, table, rows, firsts, offsets, width,
-        ),
-    }
-}
-
-// The same, the width being one of three constants.
-pub fn sample_values(
-    line: &mut [i64],
-    end: usize,
-    count: usize,
-    x: &[i16],
-    y: &[i16],
-    table: &[i16],
-    rows: &[u32],
-    firsts: &[u32],
-    offsets: &[u32],
-    width: usize,
-)
-    requires count_le_end { (count ≤ end) × (end ≤ length line.old) × Readable x.now y.now table.now width count rows.now firsts.now }
-    requires count_in_bounds { (count ≤ length offsets.now) × ((k : ℕ) → k < count → (get_or offsets.now k 0 < 2 ^ 32) × (get_or offsets.now k 0 % 16 ≡ 0)) }
-    ensures { line.new ≡ overwrite line.old (end - count) (tabulate count (λ j. mixed_value (sum_here x.now table.now width rows.now firsts.now (count - suc j) *ℤ pos 256) (sum_next y.now table.now width rows.now firsts.now (count - suc j) *ℤ pos 256) (get_or offsets.now (count - suc j) 0))) }
-{
-    match width {
-        8 => sample_values_by(line, end, count, x, y, table, rows, firsts, offsets, 8),
-        16 => sample_values_by(line, end, count, x, y, table, rows, firsts, offsets, 16),
-        32 => sample_values_by(line, end, count, x, y, table, rows, firsts, offsets, 32),
-        _ => sample_values_by(line, end, count, x, y, table, rows, firsts, offsets, width),
+    let count = places.rows.len();
+    for k in 0..count {
+        let first = places.firsts[k] as usize;
+        let row = places.rows[k] as usize;
+        let base = dot::<W>(&x[first..], &table[row..]);
+        let next = dot::<W>(&y[first..], &table[row + W..]);
+        let value = sample_value(base, next, places.offsets[k] as u64);
+        line[count - 1 - k] = value;
     }
 }

@@ -11,7 +11,7 @@ use Rattle.arith.specs.Floor.{floor_div, even_of, nearest, near}
 use Rattle.arith.specs.Lists.{at, word_at, tabulate}
 use Rattle.arith.specs.Sum.{sum, total, sum_around}
 use Rattle.arith.specs.Tests.{eq_z, within, every}
-use Rattle.book.specs.Number.{refuse, ◌otherwise◌}
+use Rattle.refusal.specs.Number.{refuse, ◌otherwise◌}
 use Rattle.book.specs.Book.{sizes_of, differences_at, level_taps_at, decimation_taps_at, book_length, impulse_word, impulse, difference, level_taps, decimation_taps}
 use Rattle.book.specs.BookK.{book_k}
 use Rattle.book.specs.Check.{power_of_two, sizes_in_range, words_in_range, coefficients_in_range, differences_right, phase_sum, tap_sum, sums_in_range, book_number}

@@ -13,9 +13,9 @@ use Rattle.arith.specs.Lists.{word_at}
 use Rattle.arith.proofs.Linear.{linear}
 use Rattle.arith.proofs.Limit.{limit_inside}
 use Rattle.arith.proofs.Lists.{word_at_bound}
-use Rattle.book.specs.Number.{◌otherwise◌}
+use Rattle.refusal.specs.Number.{◌otherwise◌}
 use Rattle.book.specs.Book.{sizes_of, level_taps}
-use Rattle.book.proofs.Numbers.{zero_otherwise}
+use Rattle.refusal.proofs.Numbers.{zero_otherwise}
 use Rattle.store.specs.Store.{top_level, store_level}
 use Rattle.store.specs.Check.{store_number}
 use Rattle.store.proofs.Ranges.{top_inside}

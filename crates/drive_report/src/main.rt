@@ -3,117 +3,66 @@
 
 #![tactic(auto)]
 
-ghost use Rattle.std.specs.Io.{ReadsAtMost};
-ghost use Rattle.report.specs.Inner.{IsPrefixLen};
-
-use player::Voice;
-use report::{Report, TEXT_BYTES};
+use report::{INPUT_BYTES, Lent, PIECE_BYTES, Report, Text};
 use std::io;
 use std::io::{Read, Write};
 use test_setting::Setting;
 
-// A report after a read, and whether the input goes on.
-#[derive(Clone, Copy)]
-struct Once {
+// A report under way, with what it reads from and prints to.
+#[derive(Drop)]
+struct Session<'a, R, W> {
+    input: R,
+    out: W,
+    lent: Lent<'a>,
     report: Report,
-    goes_on: bool,
+    text: Text,
 }
 
-// A count of a slice's bytes: n, or all where that is more.
-fn within(n: usize, bytes: &[u8]) -> usize
-    ensures { IsPrefixLen result bytes.now }
-{
-    if n < bytes.len() { n } else { bytes.len() }
-}
-
-// Reads at most `most` bytes: a pipe may hand out fewer. None are left where it hands back 0.
-fn read<R: Read>(input: &mut R, buffer: &mut [u8], most: usize) -> io::Result<usize>
-    ensures { ReadsAtMost result buffer.new }
-{
-    let room = within(most, buffer);
-    input.read(&mut buffer[..room])
-}
-
-fn print(out: &mut impl Write, text: &[u8], count: usize) -> io::Result<()> {
-    let n = within(count, text);
-    out.write_all(&text[..n])
-}
-
-// Reads once, not past the input's limit, and prints what that gives.
-fn read_once(
-    input: &mut impl Read,
-    out: &mut impl Write,
-    report: Report,
-    book: &[i32],
-    store: &[i32],
-    buffer: &mut [u8],
-    text: &mut [u8; TEXT_BYTES],
-) -> io::Result<Once> {
-    let count = read(input, buffer, report.left as usize)?;
-    if count == 0 {
-        return Ok(Once {
-            report,
-            goes_on: false,
-        });
-    }
-    let piece = report.read(&buffer[..count], book, store, text);
-    let after = piece.report;
-    print(out, text, piece.count)?;
-    Ok(Once {
-        report: after,
-        goes_on: true,
-    })
-}
-
-// Reads to the end of the input or to its limit: a turn for each byte is enough, and one that finds the end.
-fn read_all(
-    input: &mut impl Read,
-    out: &mut impl Write,
-    report: Report,
-    book: &[i32],
-    store: &[i32],
-    text: &mut [u8; TEXT_BYTES],
-) -> io::Result<Report> {
-    let mut buffer = [0u8; 4096];
-    let mut now = report;
-    let mut turns = 0u32;
-    while turns < 1048577 {
-        let once = read_once(input, out, now, book, store, &mut buffer, text)?;
-        now = once.report;
-        if !once.goes_on {
-            return Ok(now);
+impl<'a, R: Read, W: Write> Session<'a, R, W> {
+    // Reads once, not past the input's limit: a pipe may hand out less than is asked. Prints what that gives. Whether the input goes on.
+    fn read_once(&mut self) -> io::Result<bool> {
+        let mut buffer = [0u8; PIECE_BYTES];
+        let most = PIECE_BYTES.min(self.report.left as usize);
+        let count = self.input.read(&mut buffer[..most])?;
+        if count == 0 {
+            return Ok(false);
         }
-        turns += 1;
+        self.report = self
+            .report
+            .read(&buffer[..count], self.lent, &mut self.text);
+        self.out.write_all(self.text.as_str().as_bytes())?;
+        Ok(true)
     }
-    Ok(now)
-}
 
-// The whole input on a voice, and at its end the last line and the totals.
-fn run(
-    input: &mut impl Read,
-    out: &mut impl Write,
-    voice: Voice,
-    book: &[i32],
-    store: &[i32],
-    text: &mut [u8; TEXT_BYTES],
-) -> io::Result<()> {
-    let report = read_all(input, out, Report::fresh(voice), book, store, text)?;
-    let count = report.end(book, store, text);
-    print(out, text, count)
+    // Reads to the end of the input or to its limit: a turn for each byte is enough, and one that finds the end.
+    fn read_all(&mut self) -> io::Result<()> {
+        for _ in 0..=INPUT_BYTES {
+            if !self.read_once()? {
+                break;
+            }
+        }
+        Ok(())
+    }
+
+    // Prints the last line and the totals.
+    fn end(&mut self) -> io::Result<()> {
+        self.report.end(self.lent, &mut self.text);
+        self.out.write_all(self.text.as_str().as_bytes())
+    }
 }
 
 fn main(rt: HostRuntime) -> io::Result<()> {
-    let s = Setting::new();
-    let book = s.book;
-    let store = s.store;
-    let voice = s.voice;
-    let mut text = [0u8; TEXT_BYTES];
-    run(
-        &mut rt.stdin(),
-        &mut rt.stdout(),
-        voice,
-        &book,
-        &store,
-        &mut text,
-    )
+    let setting = Setting::new();
+    let mut session = Session {
+        input: rt.stdin(),
+        out: rt.stdout(),
+        lent: Lent {
+            book: &setting.book,
+            store: &setting.store,
+        },
+        report: Report::fresh(setting.voice),
+        text: Text::new(),
+    };
+    session.read_all()?;
+    session.end()
 }

@@ -1,7 +1,7 @@
 -- Numbers that are kept up to a cap. Assumes nothing.
 use mathlib.Core.Path.{◌≡◌, refl, sym, ap, ◌∙◌}
 use mathlib.Core.Bool.{Bool, true, false}
-use Prim.Native.Nat.{ℕ, ◌+◌, ◌*◌, ◌≤◌, ◌<◌, min}
+use Prim.Native.Nat.{ℕ, ◌+◌, ◌*◌, ◌≤◌, min}
 use native.Mathlib.Nat.{min-eq_left, min-eq_right, mul-le-mul_left, mul-le-mul_right}
 use native.Mathlib.Omega.{arith}
 use lib.Dec.{ltb}
@@ -26,7 +26,3 @@ cap_grown k n x cap h = by_cap (λ m. min (k * m + x) cap) n cap past
         let a : cap ≤ k * cap + x = omega arith in
         let b : cap ≤ k * n + x = omega arith in
         min-eq_right a ∙ sym (min-eq_right b)
-
--- what is kept as a number below the cap is that number
-pub cap_low : (n m cap : ℕ) → m < cap → min n cap ≡ m → n ≡ m
-cap_low n m cap h e = sym (by_cap (λ k. k) n cap (λ l. absurd (omega (arith, min-eq_right l)))) ∙ e

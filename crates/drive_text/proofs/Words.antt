@@ -1,109 +1,140 @@
--- A word kept as a number is that word: the numbers of two words are equal only where the words are. Assumes nothing.
-use mathlib.Core.Path.{◌≡◌, refl, sym, ap, ap₂, ◌∙◌}
-use mathlib.Core.Bool.{Bool, true, false, ◌&&◌, true≢false}
+-- The word that a line begins with, and how it is spelled a letter at a time. Assumes nothing.
+use mathlib.Core.Path.{◌≡◌, refl, sym, ap, subst, ◌∙◌}
+use mathlib.Core.Bool.{Bool, true, false, ◌&&◌, cond, true≢false}
 use mathlib.Core.List.{List, [], ◌∷◌}
-use Prim.Native.Nat.{ℕ, ◌+◌, ◌*◌, ◌≤◌, ◌<◌, min}
-use native.Mathlib.Nat.{min-eq_left, min-le_right, mul-le-mul_right}
-use native.Mathlib.Omega.{arith}
-use lib.Dec.{eqb, leb, ltb}
-use lib.ListN.{length}
-use borrow.Author.Tests.{eqb-true, eq-eqb, leb-true, ltb-true, ltb-false}
-use Rattle.arith.proofs.Tests.{&&-left, &&-right}
-use Rattle.drive_text.specs.Calls.{same}
-use Rattle.drive_text.specs.Inner.{word_cap, next_word, word_from}
-use Rattle.drive_text.proofs.Caps.{cap_grown, cap_low}
+use Prim.Native.Nat.{ℕ, zero, suc}
+use lib.Dec.{eqb, leb}
+use lib.ListN.{drop}
+use borrow.Author.Tests.{eqb-true}
+use Rattle.std.specs.Prelude.{Option, Some, None, slice_get}
+use Rattle.drive_text.specs.declared.Line.{Line}
+use Rattle.drive_text.specs.declared.Line.TheVariants.{Play as ToPlay, Other}
+use Rattle.drive_text.specs.declared.Word.{Word}
+use Rattle.drive_text.specs.declared.Word.TheVariants.{Jump, Glide, Seek, Play}
+use Rattle.drive_text.specs.Lines.{blank}
+use Rattle.drive_text.specs.Calls.{output_limit, same, with_one, with_two}
+use Rattle.drive_text.specs.Inner.{letters_of, word_from, one_said, two_said}
 
--- the number of a word, without the cap
-abbrev letters_from : ℕ → List ℕ → ℕ
-letters_from w [] = w
-letters_from w (x ∷ xs) = letters_from (256 * w + min x 255) xs
+-- ---- the word that letters spell
 
-word_capped : (w : ℕ) (xs : List ℕ) → word_from (min w word_cap) xs ≡ min (letters_from w xs) word_cap
-unfolding word_from next_word
-word_capped w [] = refl
-word_capped w (x ∷ xs) = ap (λ v. word_from v xs) (cap_grown 256 w (min x 255) word_cap (omega arith)) ∙ word_capped (256 * w + min x 255) xs
+abbrev pub checked : List ℕ → Option Word → Option Word
+checked xs None = None
+checked xs (Some w) = cond (same xs (drop 1 (letters_of w))) (Some w) None
 
--- ---- how large the number of a word is
+abbrev pub word_of : List ℕ → Option Word
+word_of [] = None
+word_of (x ∷ xs) = checked xs (word_from x)
 
--- 256 to the power of the word's length
-abbrev size_of : List ℕ → ℕ
-size_of [] = 1
-size_of (x ∷ xs) = 256 * size_of xs
+-- what it says with a number, and with two
+abbrev pub one_by : Option Word → ℕ → Line
+one_by None n = Other
+one_by (Some w) n = one_said w n
 
-size_pos : (xs : List ℕ) → 1 ≤ size_of xs
-size_pos [] = omega arith
-size_pos (x ∷ xs) = omega (arith, size_pos xs)
+abbrev pub two_by : Option Word → ℕ → ℕ → Line
+two_by None a c = Other
+two_by (Some w) a c = two_said w a c
 
-letters_low : (w : ℕ) (xs : List ℕ) → w * size_of xs ≤ letters_from w xs
-letters_low w [] = omega arith
-letters_low w (x ∷ xs) = omega (arith, letters_low (256 * w + min x 255) xs)
-
-letters_high : (w : ℕ) (xs : List ℕ) → letters_from w xs < (w + 1) * size_of xs
-letters_high w [] = omega arith
-letters_high w (x ∷ xs) =
-    let m : (256 * w + min x 255 + 1) * size_of xs ≤ (256 * w + 256) * size_of xs = mul-le-mul_right (size_of xs) (omega (arith, min-le_right x 255)) in
-    omega (arith, letters_high (256 * w + min x 255) xs)
-
-size_longer : (xs ys : List ℕ) → length xs < length ys → 256 * size_of xs ≤ size_of ys
-size_longer xs [] h = absurd (omega arith)
-size_longer [] (y ∷ ys) h = omega (arith, size_pos ys)
-size_longer (x ∷ xs) (y ∷ ys) h = omega (arith, size_longer xs ys (omega arith))
-
-longer_differs : (xs ys : List ℕ) → length xs < length ys → letters_from 1 xs ≡ letters_from 1 ys → ⊥
-longer_differs xs ys h e = omega (arith, size_longer xs ys h, size_pos xs, letters_high 1 xs, letters_low 1 ys)
-
--- ---- words of equal length, one of whose letters are below 255
-
-abbrev all_low : List ℕ → Bool
-all_low [] = true
-all_low (y ∷ ys) = leb y 254 && all_low ys
-
-same_letters : (w v : ℕ) (xs ys : List ℕ) → length xs ≡ length ys → all_low ys ≡ true → letters_from w xs ≡ letters_from v ys → (w ≡ v) × (same xs ys ≡ true)
-unfolding same
-same_letters w v [] [] h l e = (e, refl)
-same_letters w v [] (y ∷ ys) h l e = absurd (omega arith)
-same_letters w v (x ∷ xs) [] h l e = absurd (omega arith)
-same_letters w v (x ∷ xs) (y ∷ ys) h l e =
-    let r = same_letters (256 * w + min x 255) (256 * v + min y 255) xs ys (omega arith) (&&-right (leb y 254) (all_low ys) l) e in
-    let y_low : y ≤ 254 = leb-true y 254 (&&-left (leb y 254) (all_low ys) l) in
-    let y-in : y ≤ 255 = omega arith in
-    let y-is : min y 255 ≡ y = min-eq_left y-in in
-    let x-in : min x 255 ≤ 255 = min-le_right x 255 in
-    let x_is : min x 255 ≡ y = omega (arith, r.0) in
-    (omega (arith, r.0), simp (eq-eqb x y (cap_low x y 255 (omega arith) x_is), r.1))
-
-same_list : (xs ys : List ℕ) → same xs ys ≡ true → xs ≡ ys
-unfolding same
-same_list [] [] h = refl
-same_list [] (y ∷ ys) h = absurd (true≢false (sym h))
-same_list (x ∷ xs) [] h = absurd (true≢false (sym h))
-same_list (x ∷ xs) (y ∷ ys) h = ap₂ ◌∷◌ (eqb-true x y (&&-left (eqb x y) (same xs ys) h)) (same_list xs ys (&&-right (eqb x y) (same xs ys) h))
-
-letters_same : (xs ys : List ℕ) → all_low ys ≡ true → letters_from 1 xs ≡ letters_from 1 ys → same xs ys ≡ true
-letters_same xs ys l e = go (ltb (length xs) (length ys)) (ltb (length ys) (length xs)) refl refl
+-- a fact of every first letter: of each that begins a word, and of the others
+by_first : (P : ℕ → Type 0) (x : ℕ) → P 106 → P 103 → P 115 → P 112
+    → (eqb x 106 ≡ false → eqb x 103 ≡ false → eqb x 115 ≡ false → eqb x 112 ≡ false → P x) → P x
+by_first P x j g s p other = go (eqb x 106) (eqb x 103) (eqb x 115) (eqb x 112) refl refl refl refl
   where
-    go : (s t : Bool) → ltb (length xs) (length ys) ≡ s → ltb (length ys) (length xs) ≡ t → same xs ys ≡ true
-    go true t p q = absurd (longer_differs xs ys (ltb-true _ _ p) e)
-    go false true p q = absurd (longer_differs ys xs (ltb-true _ _ q) (sym e))
-    go false false p q = (same_letters 1 1 xs ys (omega (arith, ltb-false (length xs) (length ys) p, ltb-false (length ys) (length xs) q)) l e).1
+    go : (a b c d : Bool) → eqb x 106 ≡ a → eqb x 103 ≡ b → eqb x 115 ≡ c → eqb x 112 ≡ d → P x
+    go true b c d h i k l = subst P (sym (eqb-true x 106 h)) j
+    go false true c d h i k l = subst P (sym (eqb-true x 103 i)) g
+    go false false true d h i k l = subst P (sym (eqb-true x 115 k)) s
+    go false false false true h i k l = subst P (sym (eqb-true x 112 l)) p
+    go false false false false h i k l = other h i k l
 
--- ---- with the cap
+pub with_one_lem : (word : List ℕ) (n : ℕ) → with_one word n ≡ one_by (word_of word) n
+unfolding with_one same word_from letters_of one_said
+with_one_lem [] n = refl
+with_one_lem (x ∷ xs) n = by_first (λ y. with_one (y ∷ xs) n ≡ one_by (word_of (y ∷ xs)) n) x
+    (jump (same xs (drop 1 (letters_of Jump)))) (glide (same xs (drop 1 (letters_of Glide)))) (seek (same xs (drop 1 (letters_of Seek)))) (play (same xs (drop 1 (letters_of Play))))
+    (λ h i k l. simp (h, i, k, l))
+  where
+    jump : (t : Bool) → cond t (one_said Jump n) Other ≡ one_by (cond t (Some Jump) None) n
+    jump true = refl
+    jump false = refl
 
-module _ (xs ys : List ℕ) (low : all_low ys ≡ true) (short : letters_from 1 ys < word_cap) where
-  number_of : (zs : List ℕ) → word_from 1 zs ≡ min (letters_from 1 zs) word_cap
-  number_of zs = word_capped 1 zs
+    glide : (t : Bool) → Other ≡ one_by (cond t (Some Glide) None) n
+    glide true = refl
+    glide false = refl
 
-  own_number : word_from 1 ys ≡ letters_from 1 ys
-  own_number = let l : letters_from 1 ys ≤ word_cap = omega (arith, short) in number_of ys ∙ min-eq_left l
+    seek : (t : Bool) → cond t (one_said Seek n) Other ≡ one_by (cond t (Some Seek) None) n
+    seek true = refl
+    seek false = refl
 
-  -- the test of the numbers is that of the words
-  pub word_same : eqb (word_from 1 xs) (word_from 1 ys) ≡ same xs ys
-  word_same = go (same xs ys) (eqb (word_from 1 xs) (word_from 1 ys)) refl refl
-    where
-      go : (s t : Bool) → same xs ys ≡ s → eqb (word_from 1 xs) (word_from 1 ys) ≡ t → t ≡ s
-      go true true p q = refl
-      go false false p q = refl
-      go true false p q = absurd (true≢false (sym (eq-eqb _ _ (ap (word_from 1) (same_list xs ys p))) ∙ q))
-      go false true p q =
-          let e : min (letters_from 1 xs) word_cap ≡ letters_from 1 ys = sym (number_of xs) ∙ eqb-true _ _ q ∙ own_number in
-          absurd (true≢false (sym (letters_same xs ys low (cap_low (letters_from 1 xs) (letters_from 1 ys) word_cap short e)) ∙ p))
+    play : (t : Bool) → cond (t && leb n output_limit) (ToPlay n) Other ≡ one_by (cond t (Some Play) None) n
+    play true = refl
+    play false = refl
+
+pub with_two_lem : (word : List ℕ) (a c : ℕ) → with_two word a c ≡ two_by (word_of word) a c
+unfolding with_two same word_from letters_of two_said
+with_two_lem [] a c = refl
+with_two_lem (x ∷ xs) a c = by_first (λ y. with_two (y ∷ xs) a c ≡ two_by (word_of (y ∷ xs)) a c) x
+    (other Jump refl (same xs (drop 1 (letters_of Jump)))) (glide (same xs (drop 1 (letters_of Glide)))) (other Seek refl (same xs (drop 1 (letters_of Seek)))) (other Play refl (same xs (drop 1 (letters_of Play))))
+    (λ h i k l. simp (h, i, k, l))
+  where
+    glide : (t : Bool) → cond t (two_said Glide a c) Other ≡ two_by (cond t (Some Glide) None) a c
+    glide true = refl
+    glide false = refl
+
+    other : (w : Word) → two_said w a c ≡ Other → (t : Bool) → Other ≡ two_by (cond t (Some w) None) a c
+    other w e true = sym e
+    other w e false = refl
+
+-- the blank begins no word
+pub blank_begins : (x : ℕ) → eqb x blank ≡ true → word_from x ≡ None
+unfolding word_from
+blank_begins x h = rw (eqb-true x blank h) refl
+
+-- ---- the letters that are left
+
+abbrev pub first_of : List ℕ → Option ℕ
+first_of [] = None
+first_of (y ∷ ys) = Some y
+
+abbrev pub rest_of : List ℕ → List ℕ
+rest_of [] = []
+rest_of (y ∷ ys) = ys
+
+pub letter_at : (l : List ℕ) (k : ℕ) → slice_get l k ≡ first_of (drop k l)
+letter_at [] zero = refl
+letter_at [] (suc k) = refl
+letter_at (y ∷ ys) zero = refl
+letter_at (y ∷ ys) (suc k) = letter_at ys k
+
+pub drop_next : (l : List ℕ) (k : ℕ) → drop (suc k) l ≡ rest_of (drop k l)
+drop_next [] zero = refl
+drop_next [] (suc k) = refl
+drop_next (y ∷ ys) zero = refl
+drop_next (y ∷ ys) (suc k) = drop_next ys k
+
+-- none is a blank
+abbrev without_blank : List ℕ → Bool
+without_blank [] = true
+without_blank (y ∷ ys) = cond (eqb y blank) false (without_blank ys)
+
+left_without : (l : List ℕ) (k : ℕ) → without_blank l ≡ true → without_blank (drop k l) ≡ true
+left_without l zero h = h
+left_without [] (suc k) h = refl
+left_without (y ∷ ys) (suc k) h = left_without ys k (go (eqb y blank) h)
+  where
+    go : (t : Bool) → cond t false (without_blank ys) ≡ true → without_blank ys ≡ true
+    go true e = absurd (true≢false (sym e))
+    go false e = e
+
+letters_without : (w : Word) → without_blank (letters_of w) ≡ true
+unfolding letters_of
+letters_without Jump = refl
+letters_without Glide = refl
+letters_without Seek = refl
+letters_without Play = refl
+
+pub letter_no_blank : (w : Word) (k y : ℕ) (ys : List ℕ) → drop k (letters_of w) ≡ y ∷ ys → eqb y blank ≡ false
+letter_no_blank w k y ys e = go (eqb y blank) (sym (ap without_blank e) ∙ left_without (letters_of w) k (letters_without w))
+  where
+    go : (t : Bool) → cond t false (without_blank ys) ≡ true → t ≡ false
+    go true h = absurd (true≢false (sym h))
+    go false h = refl

@@ -2,12 +2,12 @@
 
 #![tactic(auto)]
 
-ghost use Rattle.std.specs.Prelude.{true, ◌≡◌, min};
+ghost use Rattle.std.specs.Prelude.{true, ◌≡◌};
 ghost use Rattle.drive_text.specs.Numbers.{is_digit};
-ghost use Rattle.drive_text.specs.Inner.{next_number, next_word, next_scan, is_begun, scanned_line};
+ghost use Rattle.drive_text.specs.Inner.{letters_of, word_from, next_number, next_scan, is_begun, scanned_line};
 
 // What a line says: a jump or a glide to a rate of so many 256ths, a seek to P, a play of so many outputs, or nothing of these.
-#[derive(Clone, Copy)]
+#[derive(Clone, Copy, PartialEq, Eq, Debug)]
 pub enum Line {
     Jump(u64),
     Glide { rate: u64, count: u64 },
@@ -16,128 +16,108 @@ pub enum Line {
     Other,
 }
 
-// What the bytes of a line said so far: nothing before the first, then its word as a number, then its numbers.
-#[derive(Clone, Copy)]
+// The words of the language.
+#[derive(Clone, Copy, PartialEq, Eq, Debug)]
+pub enum Word {
+    Jump,
+    Glide,
+    Seek,
+    Play,
+}
+
+// What the bytes of a line said so far: nothing before the first, then the word that it begins with and how many of its letters were read, then
+// its numbers.
+#[derive(Clone, Copy, PartialEq, Eq, Debug)]
 pub enum Scan {
     Fresh,
-    Word(u64),
-    AfterWord(u64),
-    First(u64, u64),
-    AfterFirst(u64, u64),
-    Second(u64, u64, u64),
+    InWord(Word, usize),
+    AfterWord(Word),
+    First(Word, u64),
+    AfterFirst(Word, u64),
+    Second(Word, u64, u64),
     OtherForm,
 }
 
-// Past every limit of a call: 2^60 + 1.
-const NUMBER_CAP: u64 = 1152921504606846977;
-
-// Past every word of the language: 2^48.
-const WORD_CAP: u64 = 281474976710656;
-
-// The words: 1, and then the letters in base 256.
-const JUMP: u64 = 0x16a756d70;
-
-const GLIDE: u64 = 0x1676c696465;
-
-const SEEK: u64 = 0x17365656b;
-
-const PLAY: u64 = 0x1706c6179;
-
-// The smaller of two numbers.
-pub fn least(a: u64, b: u64) -> u64
-    ensures { result ≡ min a b }
-{
-    if a < b { a } else { b }
-}
-
-fn is_digit(byte: u8) -> bool
-    ensures { result ≡ is_digit byte }
-{
-    if byte < 48 {
-        return false;
-    }
-    byte <= 57
-}
+// Past every limit of a call.
+const NUMBER_CAP: u64 = (1 << 60) + 1;
 
 // A number with one more digit.
+#[tactic(auto, unfolding(crate::specs::Inner::next_number, crate::specs::Numbers::is_digit), using(crate::proofs::Caps::cap_grown))]
 fn next_number(n: u64, byte: u8) -> u64
     requires { is_digit byte ≡ true }
     ensures { result ≡ next_number n byte }
 {
-    let tens = least(n, NUMBER_CAP) * 10;
-    least(tens + (byte - 48) as u64, NUMBER_CAP)
+    let tens = n.min(NUMBER_CAP) * 10;
+    (tens + u64::from(byte - b'0')).min(NUMBER_CAP)
 }
 
-// A word with one more letter.
-fn next_word(word: u64, byte: u8) -> u64
-    ensures { result ≡ next_word word byte }
-{
-    let letters = least(word, WORD_CAP) * 256;
-    least(letters + byte as u64, WORD_CAP)
-}
+impl Word {
+    // The word that begins with a letter: no two begin with the same.
+    #[tactic(auto, unfolding(crate::specs::Inner::word_from))]
+    fn from_letter(letter: u8) -> Option<Word>
+        ensures { result ≡ word_from letter }
+    {
+        match letter {
+            b'j' => Some(Word::Jump),
+            b'g' => Some(Word::Glide),
+            b's' => Some(Word::Seek),
+            b'p' => Some(Word::Play),
+            _ => None,
+        }
+    }
 
-fn in_word(word: u64, byte: u8) -> Scan
-    ensures { result ≡ next_scan (Scan.Word word) byte }
-{
-    if byte == 32 {
-        return Scan::AfterWord(word);
+    #[tactic(auto, unfolding(crate::specs::Inner::letters_of))]
+    fn letters(self) -> &'static [u8]
+        ensures { result.now ≡ letters_of self }
+    {
+        match self {
+            Word::Jump => b"jump",
+            Word::Glide => b"glide",
+            Word::Seek => b"seek",
+            Word::Play => b"play",
+        }
     }
-    Scan::Word(next_word(word, byte))
-}
-
-fn after_word(word: u64, byte: u8) -> Scan
-    ensures { result ≡ next_scan (Scan.AfterWord word) byte }
-{
-    if is_digit(byte) {
-        return Scan::First(word, next_number(0, byte));
-    }
-    Scan::OtherForm
-}
-
-fn in_first(word: u64, a: u64, byte: u8) -> Scan
-    ensures { result ≡ next_scan (Scan.First word a) byte }
-{
-    if is_digit(byte) {
-        return Scan::First(word, next_number(a, byte));
-    }
-    if byte == 32 {
-        return Scan::AfterFirst(word, a);
-    }
-    Scan::OtherForm
-}
-
-fn after_first(word: u64, a: u64, byte: u8) -> Scan
-    ensures { result ≡ next_scan (Scan.AfterFirst word a) byte }
-{
-    if is_digit(byte) {
-        return Scan::Second(word, a, next_number(0, byte));
-    }
-    Scan::OtherForm
-}
-
-fn in_second(word: u64, a: u64, c: u64, byte: u8) -> Scan
-    ensures { result ≡ next_scan (Scan.Second word a c) byte }
-{
-    if is_digit(byte) {
-        return Scan::Second(word, a, next_number(c, byte));
-    }
-    Scan::OtherForm
 }
 
 impl Scan {
-    // After one more byte, which is no line end.
+    // Before the first byte.
     #[tactic(auto, unfolding(crate::specs::Inner::next_scan))]
+    fn first_letter(byte: u8) -> Scan
+        ensures { result ≡ next_scan Scan.Fresh byte }
+    {
+        match Word::from_letter(byte) {
+            Some(word) => Scan::InWord(word, 1),
+            None => Scan::OtherForm,
+        }
+    }
+
+    // Behind so many letters of a word.
+    #[tactic(auto, unfolding(crate::specs::Inner::next_scan))]
+    fn next_letter(word: Word, read: usize, byte: u8) -> Scan
+        ensures { result ≡ next_scan (Scan.InWord word read) byte }
+    {
+        match word.letters().get(read) {
+            Some(&letter) if byte == letter => Scan::InWord(word, read + 1),
+            None if byte == b' ' => Scan::AfterWord(word),
+            _ => Scan::OtherForm,
+        }
+    }
+
+    // After one more byte, which is no line end.
+    #[tactic(auto, unfolding(crate::specs::Inner::next_scan, crate::specs::Numbers::is_digit))]
     pub fn next(self, byte: u8) -> Scan
         ensures { result ≡ next_scan self byte }
     {
+        let digit = byte.is_ascii_digit();
         match self {
-            Scan::Fresh => in_word(1, byte),
-            Scan::Word(word) => in_word(word, byte),
-            Scan::AfterWord(word) => after_word(word, byte),
-            Scan::First(word, a) => in_first(word, a, byte),
-            Scan::AfterFirst(word, a) => after_first(word, a, byte),
-            Scan::Second(word, a, c) => in_second(word, a, c, byte),
-            Scan::OtherForm => Scan::OtherForm,
+            Scan::Fresh => Scan::first_letter(byte),
+            Scan::InWord(word, read) => Scan::next_letter(word, read, byte),
+            Scan::AfterWord(word) if digit => Scan::First(word, next_number(0, byte)),
+            Scan::First(word, a) if digit => Scan::First(word, next_number(a, byte)),
+            Scan::First(word, a) if byte == b' ' => Scan::AfterFirst(word, a),
+            Scan::AfterFirst(word, a) if digit => Scan::Second(word, a, next_number(0, byte)),
+            Scan::Second(word, a, c) if digit => Scan::Second(word, a, next_number(c, byte)),
+            _ => Scan::OtherForm,
         }
     }
 
@@ -146,58 +126,20 @@ impl Scan {
     pub fn is_begun(self) -> bool
         ensures { result ≡ is_begun self }
     {
-        match self {
-            Scan::Fresh => false,
-            Scan::Word(_) => true,
-            Scan::AfterWord(_) => true,
-            Scan::First(_, _) => true,
-            Scan::AfterFirst(_, _) => true,
-            Scan::Second(_, _, _) => true,
-            Scan::OtherForm => true,
-        }
+        !matches!(self, Scan::Fresh)
     }
 
     // What the line says if it ends here.
-    #[tactic(auto, unfolding(crate::specs::Inner::scanned_line))]
+    #[tactic(auto, unfolding(crate::specs::Inner::scanned_line, crate::specs::Inner::one_said, crate::specs::Inner::two_said))]
     pub fn line(self) -> Line
         ensures { result ≡ scanned_line self }
     {
         match self {
-            Scan::Fresh => Line::Other,
-            Scan::Word(_) => Line::Other,
-            Scan::AfterWord(_) => Line::Other,
-            Scan::First(word, a) => with_one(word, a),
-            Scan::AfterFirst(_, _) => Line::Other,
-            Scan::Second(word, a, c) => with_two(word, a, c),
-            Scan::OtherForm => Line::Other,
+            Scan::First(Word::Jump, rate) => Line::Jump(rate),
+            Scan::First(Word::Seek, position) => Line::Seek(position),
+            Scan::First(Word::Play, count) if count <= 4096 => Line::Play(count),
+            Scan::Second(Word::Glide, rate, count) => Line::Glide { rate, count },
+            _ => Line::Other,
         }
     }
-}
-
-// A word and a number.
-fn with_one(word: u64, n: u64) -> Line
-    ensures { result ≡ scanned_line (Scan.First word n) }
-{
-    if word == JUMP {
-        return Line::Jump(n);
-    }
-    if word == SEEK {
-        return Line::Seek(n);
-    }
-    if word == PLAY {
-        if n <= 4096 {
-            return Line::Play(n);
-        }
-    }
-    Line::Other
-}
-
-// A word and two numbers.
-fn with_two(word: u64, a: u64, c: u64) -> Line
-    ensures { result ≡ scanned_line (Scan.Second word a c) }
-{
-    if word == GLIDE {
-        return Line::Glide { rate: a, count: c };
-    }
-    Line::Other
 }

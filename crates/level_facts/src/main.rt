@@ -3,6 +3,7 @@
 
 #![tactic(auto)]
 
+use refusal::number_of;
 use std::io;
 use std::io::Write;
 
@@ -11,22 +12,25 @@ const K: [i32; 11] = [2, 1, 0, 0, 1, 0, 16384, 16384, -16384, 16384, 16384];
 
 // A book of K's length with word i changed to x, where it has such a word.
 fn changed(b: [i32; 11], i: usize, x: i32) -> [i32; 11] {
-    if i < 11 {
-        let mut c = b;
-        c[i] = x;
-        return c;
+    let mut c = b;
+    if let Some(word) = c.get_mut(i) {
+        *word = x;
     }
-    b
+    c
+}
+
+// The number of a book's check.
+fn checked(book: &[i32]) -> u32 {
+    number_of(&book::check(book))
 }
 
 fn unchanged(out: &mut impl Write) -> io::Result<()> {
-    writeln!(out, "K {}", book::check(&K))
+    writeln!(out, "K {}", checked(&K))
 }
 
 // A name, a value x, and the check's number for a book with word i changed to x.
 fn edited(out: &mut impl Write, name: &str, b: [i32; 11], i: usize, x: i32) -> io::Result<()> {
-    let c = changed(b, i, x);
-    writeln!(out, "{name} {x} {}", book::check(&c))
+    writeln!(out, "{name} {x} {}", checked(&changed(b, i, x)))
 }
 
 fn letter(out: &mut impl Write, name: &str, i: usize, x: i32) -> io::Result<()> {
@@ -86,51 +90,36 @@ fn phase(x: i32, d: i32, e: i32) -> u32 {
     let b = [
         4, 1, 0, 0, 1, 0, 32767, 32767, x, 32767, 0, d, e, 16384, 16384,
     ];
-    book::check(&b)
+    checked(&b)
 }
 
 // The number of a book with the level taps 16384, h and the decimation taps -16384, g.
 fn outer_taps(h: i32, g: i32) -> u32 {
     let b = [2, 1, 1, 1, 1, 0, 16384, 16384, -16384, 16384, h, -16384, g];
-    book::check(&b)
+    checked(&b)
 }
 
 // Sums of absolute values: a phase of 65536 and of 65538, and taps of 32768 and of 32770.
 fn sums(out: &mut impl Write) -> io::Result<()> {
     print::number(out, phase(2, -32765, -2))?;
-    print::next_number(out, phase(4, -32763, -4))?;
-    print::next_number(out, outer_taps(-8192, 8192))?;
-    print::next_number(out, outer_taps(-8193, 8192))?;
-    print::next_number(out, outer_taps(-8192, 8193))?;
+    print::next(out, phase(4, -32763, -4))?;
+    print::next(out, outer_taps(-8192, 8192))?;
+    print::next(out, outer_taps(-8193, 8192))?;
+    print::next(out, outer_taps(-8192, 8193))?;
     print::end_line(out)
 }
 
 // The first words of K.
 fn starts(out: &mut impl Write) -> io::Result<()> {
     let k = K;
-    print::number(out, book::check(&k[..4]))?;
-    print::next_number(out, book::check(&k[..0]))?;
-    print::next_number(out, book::check(&k[..5]))?;
-    print::next_number(out, book::check(&k[..10]))?;
+    print::number(out, checked(&k[..4]))?;
+    print::next(out, checked(&k[..0]))?;
+    print::next(out, checked(&k[..5]))?;
+    print::next(out, checked(&k[..10]))?;
     print::end_line(out)
 }
 
-// Builds into the first `room` words of a store, and prints the number.
-fn build_in(
-    out: &mut impl Write,
-    book: &[i32],
-    samples: &[i16],
-    top: u32,
-    store: &mut [i32],
-    room: usize,
-) -> io::Result<()> {
-    if room <= store.len() {
-        print::number(out, levels::build(book, samples, top, &mut store[..room]))?;
-    }
-    Ok(())
-}
-
-// The same with a store of nines, and every word of it afterwards.
+// Builds into the first `room` words of a store of nines, and prints the number and every word of it afterwards.
 fn built(
     out: &mut impl Write,
     book: &[i32],
@@ -139,8 +128,11 @@ fn built(
     room: usize,
 ) -> io::Result<()> {
     let mut store = [9i32; 16];
-    build_in(out, book, samples, top, &mut store, room)?;
-    print::integers(out, &store)
+    if let Some(front) = store.get_mut(..room) {
+        let answer = levels::build(book, samples, top, front);
+        print::number(out, number_of(&answer))?;
+    }
+    print::line(out, &store)
 }
 
 // A store of a ramp.
@@ -197,10 +189,9 @@ fn stores(out: &mut impl Write) -> io::Result<()> {
 fn store_with(i: usize, x: i32) -> [i32; 9] {
     let samples = [0i16, 1000, 2000];
     let mut store = [0i32; 9];
-    levels::build(&K, &samples, 1, &mut store);
-    if i < 9 {
-        store[i] = x;
-        return store;
+    let _ = levels::build(&K, &samples, 1, &mut store);
+    if let Some(word) = store.get_mut(i) {
+        *word = x;
     }
     store
 }
@@ -208,7 +199,7 @@ fn store_with(i: usize, x: i32) -> [i32; 9] {
 // A name, a value x, and the check's number for such a store.
 fn header(out: &mut impl Write, name: &str, i: usize, x: i32) -> io::Result<()> {
     let store = store_with(i, x);
-    writeln!(out, "{name} {x} {}", store::check(&store))
+    writeln!(out, "{name} {x} {}", number_of(&store::check(&store)))
 }
 
 // S and T out of range; in range, but of a longer store; of a shorter one.
@@ -239,11 +230,11 @@ fn written(out: &mut impl Write) -> io::Result<()> {
 // The first words of such a store.
 fn cut(out: &mut impl Write) -> io::Result<()> {
     let words = [3, 1, 3, 2, 0, 256000, 512000, 0, 512000];
-    print::number(out, store::check(&words[..0]))?;
-    print::next_number(out, store::check(&words[..1]))?;
-    print::next_number(out, store::check(&words[..2]))?;
-    print::next_number(out, store::check(&words[..8]))?;
-    print::next_number(out, store::check(&words))?;
+    print::number(out, number_of(&store::check(&words[..0])))?;
+    print::next(out, number_of(&store::check(&words[..1])))?;
+    print::next(out, number_of(&store::check(&words[..2])))?;
+    print::next(out, number_of(&store::check(&words[..8])))?;
+    print::next(out, number_of(&store::check(&words)))?;
     print::end_line(out)
 }
 

@@ -6,9 +6,9 @@ use Prim.Native.Nat.{ℕ, ◌≤◌}
 use borrow.Author.Tests.{ltb-false}
 use lib.IntN.{ℤ, pos}
 use Rattle.arith.proofs.Tests.{&&-left, &&-right}
-use Rattle.book.specs.Number.{refuse}
+use Rattle.refusal.specs.Number.{refuse}
 use Rattle.book.specs.Check.{book_number}
-use Rattle.book.proofs.Numbers.{none_first, none_second, condition_fails, not_refused}
+use Rattle.refusal.proofs.Numbers.{none_first, none_second, condition_fails, not_refused}
 use Rattle.store.specs.Sizes.{samples_in_range, top_in_range, store_length}
 use Rattle.store.proofs.Ranges.{samples_high, top_high}
 use Rattle.levels.specs.Build.{build_number}

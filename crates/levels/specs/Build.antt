@@ -1,7 +1,7 @@
 -- The level builder's answer (document 01, "Octave levels" and "When a call says no": building, 1 to 9; the header: document 02, (a)).
 use Rattle.std.specs.Prelude.{not, ◌&&◌, cond, List, ◌++◌, ℕ, ltb, eqb, ℤ, pos, length}
 use Rattle.arith.specs.Lists.{overwrite}
-use Rattle.book.specs.Number.{refuse, ◌otherwise◌}
+use Rattle.refusal.specs.Number.{refuse, ◌otherwise◌}
 use Rattle.book.specs.Book.{level_taps}
 use Rattle.book.specs.Check.{book_number}
 use Rattle.store.specs.Sizes.{samples_in_range, top_in_range, store_length}

@@ -24,31 +24,24 @@ fn hum_at(i: usize) -> i16 {
 }
 
 fn hum(samples: &mut [i16]) {
-    let mut i = 0;
-    while i < samples.len() {
-        let x = hum_at(i);
-        samples[i] = x;
-        i += 1;
+    for (i, sample) in samples.iter_mut().enumerate() {
+        *sample = hum_at(i);
     }
 }
 
 // What is done before block n: a jump, a glide or a seek to the start.
 fn steered(v: Voice, n: u32) -> Voice {
-    if n % 8 == 0 {
-        return v.seek(0).voice;
-    }
-    if n % 8 == 3 {
-        return v.order(Order::Jump(1.5)).voice;
-    }
-    if n % 8 == 5 {
-        return v
-            .order(Order::Glide {
-                target: 3.0,
-                count: 2000,
-            })
-            .voice;
-    }
-    v
+    let glide = Order::Glide {
+        target: 3.0,
+        count: 2000,
+    };
+    let answer = match n % 8 {
+        0 => v.seek(0),
+        3 => v.order(Order::Jump(1.5)),
+        5 => v.order(glide),
+        _ => Ok(v),
+    };
+    answer.unwrap_or(v)
 }
 
 // A sample as a number from 0 to 65535.
@@ -61,28 +54,28 @@ fn raised(x: i16) -> u64
 // The check number after one more block: c × 31 + sample, modulo 2^31 − 1, over the block.
 fn checked(c: u64, block: &[i16]) -> u64 {
     let mut sum = c % 2147483647;
-    let mut i = 0;
-    while i < block.len() {
-        sum = (sum * 31 + raised(block[i])) % 2147483647;
-        i += 1;
+    for x in block {
+        sum = (sum * 31 + raised(*x)) % 2147483647;
     }
     sum
 }
 
 // Block n, after what is done before it.
 fn played(v: Voice, n: u32, book: &[i32], store: &[i32], block: &mut [i16]) -> Voice {
-    steered(v, n).play(book, store, block).voice
+    let steered = steered(v, n);
+    match steered.play(book, store, block) {
+        Ok(played) => played.voice,
+        Err(refused) => refused.voice,
+    }
 }
 
 // Plays 250 blocks, and hands back the check number of all samples.
 fn driven(voice: Voice, book: &[i32], store: &[i32], block: &mut [i16]) -> u64 {
     let mut v = voice;
     let mut check = 0;
-    let mut n = 0u32;
-    while n < 250 {
+    for n in 0..250 {
         v = played(v, n, book, store, block);
         check = checked(check, block);
-        n += 1;
     }
     check
 }
@@ -91,7 +84,7 @@ fn driven(voice: Voice, book: &[i32], store: &[i32], block: &mut [i16]) -> u64 {
 fn last_two(out: &mut impl Write, block: &[i16]) -> io::Result<()> {
     if 2 <= block.len() {
         let start = block.len() - 2;
-        print::samples(out, &block[start..])?;
+        print::line(out, &block[start..])?;
     }
     Ok(())
 }
@@ -100,12 +93,13 @@ fn last_two(out: &mut impl Write, block: &[i16]) -> io::Result<()> {
 fn built(book: &Book, store: &mut Store) {
     let mut samples = [0i16; 32768];
     hum(&mut samples);
-    levels::build(book, &samples, 2, store);
+    let _ = levels::build(book, &samples, 2, store);
 }
 
 fn drive(out: &mut impl Write, book: &Book, store: &Store) -> io::Result<()> {
     let mut block = [0i16; 4000];
-    let v = Voice::open(Card { rate: 1.5, top: 2 }).voice;
+    let opened = Voice::open(Card { rate: 1.5, top: 2 });
+    let v = opened.unwrap_or_else(|refused| refused.voice);
     write!(out, "{}", driven(v, book, store, &mut block))?;
     last_two(out, &block)
 }

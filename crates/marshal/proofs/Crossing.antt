@@ -1,12 +1,16 @@
 -- A voice that is written as words is read back as it was, if its fields fit their types. So a list of calls over words is that
 -- list of calls on voices. Assumes nothing.
-use mathlib.Core.Path.{◌≡◌, ap, ap₂, ◌∙◌}
+use mathlib.Core.Path.{◌≡◌, sym, ap, ap₂, ◌∙◌}
 use mathlib.Core.Bool.{cond}
 use Prim.Native.Nat.{ℕ, suc, ◌+◌, ◌-◌, ◌*◌, ◌/◌, ◌%◌, ◌^◌, ◌<◌}
 use native.Mathlib.Decide.{dec_le}
 use native.Mathlib.Omega.{arith}
 use borrow.Author.Tests.{lt-ltb, le-ltb}
-use lib.IntN.{pos, negsuc, ◌-ℤ◌}
+use mir.Syntax.{w32, w64}
+use mir.Val.{Fits, to_z, of_z}
+use lib.Dec.{ltb}
+use Rattle.std.proofs.lemmas.Int.{of_z-to_z}
+use lib.IntN.{ℤ, pos, negsuc, ◌-ℤ◌}
 use lib.ListN.{length}
 use lib.Seq.{take_all}
 use Rattle.arith.specs.Words.{unsigned}
@@ -34,6 +38,24 @@ unfolding wide low_word high_word
 wide_back n h =
     let whole : n % 2 ^ 32 + n / 2 ^ 32 * 2 ^ 32 ≡ n = omega arith in
     ap₂ (λ low high. low + high * 2 ^ 32) (word_back (n % 2 ^ 32) (omega arith)) (word_back (n / 2 ^ 32) (omega arith)) ∙ whole
+
+-- ---- words as the code makes them: a number's bits, and what a local of 32 bits gives back
+signed_is : (n : ℕ) → n < 2 ^ 32 → to_z w32 n ≡ signed n
+unfolding signed
+signed_is n h = ap (cond (ltb n (2 ^ 31)) (pos n)) (sym (difference_below n h))
+
+pub signed_bits : (n : ℕ) (x : ℤ) → Fits w32 n → x ≡ to_z w32 n → to_z w32 (of_z w32 x) ≡ signed n
+signed_bits n x f e = ap (λ y. to_z w32 (of_z w32 y)) e ∙ ap (to_z w32) (of_z-to_z w32 n (omega arith)) ∙ signed_is n (omega arith)
+
+pub low_bits : (n : ℕ) (x : ℤ) → x ≡ low_word n → to_z w32 (of_z w32 x) ≡ low_word n
+unfolding low_word
+low_bits n x e = signed_bits (n % 2 ^ 32) x (record { fits = omega arith }) (e ∙ sym (signed_is (n % 2 ^ 32) (omega arith)))
+
+pub high_bits : (n : ℕ) (x : ℤ) → Fits w64 n → x ≡ high_word n → to_z w32 (of_z w32 x) ≡ high_word n
+unfolding high_word
+high_bits n x f e =
+    let h : n / 2 ^ 32 < 2 ^ 32 = omega arith in
+    signed_bits (n / 2 ^ 32) x (record { fits = omega arith }) (e ∙ sym (signed_is (n / 2 ^ 32) h))
 
 -- ---- a voice whose fields fit their types
 

@@ -1,9 +1,9 @@
 -- The answers of the calls over words: the player's, the voice read from its words and written back to them.
-use Rattle.std.specs.Prelude.{cond, List, ℕ, eqb, ℤ, length}
+use Rattle.std.specs.Prelude.{cond, List, ℕ, eqb, ℤ, length, Result, Ok, Err}
+use Rattle.refusal.specs.declared.Refusal.{Refusal}
 use Rattle.control.specs.declared.Card.{Card}
 use Rattle.player.specs.declared.Voice.{Voice}
-use Rattle.player.specs.declared.Answer.{Answer}
-use Rattle.player.specs.Calls.{open_answer, play_answer}
+use Rattle.player.specs.Calls.{Answer, open_answer, play_answer}
 use Rattle.marshal.specs.Words.{voice_length, voice_of, words_of}
 
 -- what a call leaves: its number, and the words of the voice
@@ -40,6 +40,11 @@ pub record PlayCrossed : Type 0 where
 
 abbrev pub play_crossed : ℕ → List ℤ → ℕ → List ℤ → PlayCrossed
 play_crossed n voice m words = record { number = n; voice = voice; multiplies = m; words = words }
+
+-- the multiply count that the code hands back: 0 of a refused play
+abbrev pub count_of : Result ℕ Refusal → ℕ
+count_of (Ok n) = n
+count_of (Err _) = 0
 
 unfoldable pub play_crossing : List ℤ → List ℤ → List ℤ → List ℤ → PlayCrossed
 play_crossing voice b store out =

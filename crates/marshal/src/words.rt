@@ -1,34 +1,24 @@
 // A voice as 95 signed 32-bit words: T, the fade's old and new level and i, R, R0, R1, c, j and P, then the 81 points. A field of 64
 // bits is two words, the low one first.
 
-ghost use Rattle.std.specs.Prelude.{◌≡◌, ◌++◌, ◌+◌, ◌≤◌, ◌<◌, length};
-ghost use Rattle.arith.specs.Lists.{at, part, overwrite};
+ghost use Rattle.std.specs.Prelude.{◌≡◌, ◌+◌, ◌<◌, length};
+ghost use Rattle.arith.specs.Lists.{at, part};
 ghost use Rattle.arith.specs.Words.{unsigned};
-ghost use Rattle.marshal.specs.Words.{voice_length, signed, wide, low_word, high_word, control_of, voice_of, control_words, words_of};
+ghost use Rattle.marshal.specs.Words.{voice_length, wide, low_word, high_word, control_of, voice_of, control_words, words_of};
 
-use arith::words::unsigned;
 use control::{Control, Fade, Glide};
 use player::Voice;
 
-// The word that has the 32 bits of x.
-fn signed(x: u32) -> i32
-    ensures { result ≡ signed x }
-{
-    if x < 2147483648 {
-        return x as i32;
-    }
-    (x as i64 - 4294967296) as i32
-}
-
 // Word k, read as unsigned.
+#[tactic(auto, using(arith::proofs::Bits::bits_unsigned))]
 fn unsigned_at(words: &[i32], k: usize) -> u32
     requires { k < length words.now }
     ensures { result ≡ unsigned (at words.now k) }
 {
-    unsigned(words[k])
+    words[k].cast_unsigned()
 }
 
-// The number of 64 bits in words k and k + 1.
+// The number of 64 bits in words k and k + 1. This and the two below count by 2^32, as the specification does, and not by shifts.
 fn wide_at(words: &[i32], k: usize) -> u64
     requires { k + 1 < length words.now }
     ensures { result ≡ wide (at words.now k) (at words.now (k + 1)) }
@@ -40,16 +30,17 @@ fn wide_at(words: &[i32], k: usize) -> u64
 fn low_word(x: u64) -> i32
     ensures { result ≡ low_word x }
 {
-    signed((x % 4294967296) as u32)
+    ((x % 4294967296) as u32).cast_signed()
 }
 
 fn high_word(x: u64) -> i32
     ensures { result ≡ high_word x }
 {
-    signed((x / 4294967296) as u32)
+    ((x / 4294967296) as u32).cast_signed()
 }
 
-// The control in a voice's first 14 words.
+// The control in a voice's first 14 words. That there are 95 is a clause, here and twice below, and no array's type: C lends a slice, and through an
+// array lent from it each call would have to show again what comes back to the slice.
 fn control_of(words: &[i32]) -> Control
     requires { length words.now ≡ voice_length }
     ensures { result ≡ control_of words.now }
@@ -78,11 +69,7 @@ fn history_of(words: &[i32]) -> [i32; 81]
     ensures { result ≡ part words.now 14 81 }
 {
     let mut history = [0i32; 81];
-    let mut k = 0;
-    while k < 81 {
-        history[k] = words[14 + k];
-        k += 1;
-    }
+    history.copy_from_slice(&words[14..]);
     history
 }
 
@@ -91,9 +78,10 @@ pub(crate) fn voice_of(words: &[i32]) -> Voice
     requires { length words.now ≡ voice_length }
     ensures { result ≡ voice_of words.now }
 {
-    let control = control_of(words);
-    let history = history_of(words);
-    Voice { control, history }
+    Voice {
+        control: control_of(words),
+        history: history_of(words),
+    }
 }
 
 // The words of a control.
@@ -103,51 +91,29 @@ fn control_words(c: Control) -> [i32; 14]
     let fade = c.fade;
     let glide = c.glide;
     [
-        signed(c.top),
-        signed(fade.from),
-        signed(fade.to),
-        signed(fade.step),
+        c.top.cast_signed(),
+        fade.from.cast_signed(),
+        fade.to.cast_signed(),
+        fade.step.cast_signed(),
         low_word(c.rate),
         high_word(c.rate),
         low_word(glide.start),
         high_word(glide.start),
         low_word(glide.target),
         high_word(glide.target),
-        signed(glide.count),
-        signed(glide.done),
+        glide.count.cast_signed(),
+        glide.done.cast_signed(),
         low_word(c.position),
         high_word(c.position),
     ]
 }
 
-// Writes `source` over `words` from word `start` on.
-fn put(words: &mut [i32], start: usize, source: &[i32])
-    requires { (start ≤ voice_length) × (start + length source.now ≤ length words.old) }
-    ensures { words.new ≡ overwrite words.old start source.now }
-{
-    let mut k = 0;
-    while k < source.len() {
-        words[start + k] = source[k];
-        k += 1;
-    }
-}
-
-// Writes a control's words, and the points behind them.
-fn put_parts(words: &mut [i32], head: [i32; 14], history: [i32; 81])
-    requires { length words.old ≡ voice_length }
-    ensures { words.new ≡ head ++ history }
-{
-    put(words, 0, &head);
-    put(words, 14, &history);
-}
-
-// Writes a voice's words.
+// Writes a voice's words: the control's, and the points behind them.
 pub(crate) fn put_voice(words: &mut [i32], v: Voice)
     requires { length words.old ≡ voice_length }
     ensures { words.new ≡ words_of v }
 {
-    let control = v.control;
-    let head = control_words(control);
-    let history = v.history;
-    put_parts(words, head, history);
+    let (head, points) = words.split_at_mut(14);
+    head.copy_from_slice(&control_words(v.control));
+    points.copy_from_slice(&v.history);
 }

@@ -9,10 +9,7 @@ ghost use Rattle.multiplies.specs.Multiplies.{values_made};
 pub fn values_made(step: u32) -> usize
     ensures { result ≡ values_made step }
 {
-    if step == 0 {
-        return 1;
-    }
-    2
+    if step == 0 { 1 } else { 2 }
 }
 
 // The multiplies of a block: 2N for each of its level values, and 2B + 1 for each output.

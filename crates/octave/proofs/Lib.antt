@@ -1,3 +1,4 @@
 pub mod Octave
 pub mod PairSums
 pub mod BandSums
+pub mod Sixtyfour

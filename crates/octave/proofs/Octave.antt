@@ -1,7 +1,7 @@
 -- The laws of the level above a level: how long it is, its words and how large they are. Assumes nothing.
 use mathlib.Core.Path.{◌≡◌}
 use mathlib.Core.List.{List}
-use Prim.Native.Nat.{ℕ, suc, ◌-◌, ◌*◌, ◌/◌, ◌≤◌, ◌<◌}
+use Prim.Native.Nat.{ℕ, suc, ◌^◌, ◌-◌, ◌*◌, ◌/◌, ◌≤◌, ◌<◌}
 use native.Mathlib.Nat.{le_refl}
 use native.Mathlib.Decide.{dec_le}
 use native.Mathlib.Omega.{arith}
@@ -11,7 +11,10 @@ use Rattle.arith.specs.Lists.{at}
 use Rattle.arith.proofs.Floor.{near_bound}
 use Rattle.arith.proofs.Lists.{at_outside, length-tabulate, get_or-tabulate}
 use Rattle.book.specs.Check.{tap_sum}
-use Rattle.book.proofs.Around.{around, around_bound}
+use Rattle.arith.proofs.Bits.{reads}
+use Rattle.book.proofs.Around.{around, around_bound, tap_bound_lem, tap_fits}
+use mir.Syntax.{w32}
+use mir.Val.{of_z, to_z}
 use Rattle.octave.specs.Octave.{half_length, level_sum, level_word, next_level}
 
 -- as the code computes it
@@ -50,3 +53,7 @@ next_bound h level small c bound k = go (dec_le (suc k) (half_length (length lev
     go : Dec (k < half_length (length level)) → nat_abs (at (next_level h level) k) ≤ 2 * c
     go (yes l) = rw (at_next h level k l) (word_bound h level small c bound k)
     go (no l) = rw (at_outside (next_level h level) k (omega (arith, length-next h level))) (omega arith)
+
+-- a tap, as the code limits it
+pub tap_small : (h : List ℤ) → tap_sum h ≤ 32768 → (d : ℕ) → d < length h → nat_abs (to_z w32 (of_z w32 (at h d))) ≤ 2 ^ 30
+tap_small h small d l = simp (reads, tap_fits h small d l) (omega (arith, tap_bound_lem h d l, small))

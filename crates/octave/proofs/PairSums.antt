@@ -9,24 +9,22 @@ use native.Mathlib.Omega.{arith}
 use lib.IntN.{ℤ, pos, negsuc, nat_abs, ◌+ℤ◌, ◌-ℤ◌, ◌*ℤ◌}
 use lib.ListN.{length}
 use lib.Signed.{◌<ℤ◌}
-use Rattle.arith.specs.Floor.{floor_div, near}
+use Rattle.arith.specs.Floor.{floor_div}
 use Rattle.arith.specs.Limit.{limit}
-use Rattle.arith.specs.Lists.{at, word_at, part, tabulate}
+use Rattle.arith.specs.Lists.{at, word_at}
 use Rattle.arith.specs.Sum.{sum, total, sum_around}
 use Rattle.arith.proofs.Integers.{abs_triangle, abs-*-≤, abs-≤}
 use Rattle.arith.proofs.Limit.{limit_between, limit-same}
 use Rattle.arith.proofs.Linear.{linear}
-use Rattle.arith.proofs.Lists.{at_outside, at_part, part_length}
-use Rattle.arith.proofs.Parts.{tabulate-part}
+use Rattle.arith.proofs.Lists.{at_outside}
 use Rattle.arith.proofs.Ring.{products, terms}
 use Rattle.arith.proofs.Sum.{sum_ext, sum-+, sum-*, sum_more, sum-abs-*, sum_around_lem, total_mono, total_more, total_around}
 use Rattle.book.specs.Check.{tap_sum}
 use Rattle.book.proofs.Around.{tap_bound_lem}
 use Rattle.pair_sums.specs.Pairs.{upper_part, lower_part, sample_part, Samples, pair_product, pair_sum, place_of, shift, line_sum, Small}
 use Rattle.pair_sums.proofs.Pairs.{lower_between}
-use Rattle.octave.specs.Octave.{half_length, level_sum, level_word, next_level}
+use Rattle.octave.specs.Octave.{level_sum}
 use Rattle.octave.specs.Inner.{Rows}
-use Rattle.octave.proofs.Octave.{half_length_holds, length-next, at_next}
 
 -- ---- parts of a word
 
@@ -207,57 +205,6 @@ module _ (h : List ℤ) (small : tap_sum h ≤ 32768) (narrow : at h 0 <ℤ pos 
       where
         same : (x : ℤ) → x +ℤ pos 0 ≡ x
         same x = simp linear (omega arith)
-
--- ---- words of a block
-
--- sixty-four words, wherever each stands
-pub block_words : (h level xs : List ℤ) (n : ℕ) (place : ℕ → ℕ) → n + 64 ≤ half_length (length level)
-    → ((i : ℕ) → i < 64 → at xs (place i) ≡ near (level_sum h level (n + i)) 16384)
-    → tabulate 64 (λ i. at xs (place i)) ≡ part (next_level h level) n 64
-unfolding level_word
-block_words h level xs n place l are =
-    tabulate-part (next_level h level) n 64 (λ i. at xs (place i)) (omega (arith, length-next h level)) (λ i m. are i m ∙ sym (at_next h level (n + i) (omega arith)))
-
--- a block's words as the code lends them, from the first that it reads on, `count` words before its centre: where they stand in the level, and how large they are
-module _ (store : List ℤ) (start words n count : ℕ) where
-  abbrev pub level : List ℤ
-  level = part store start words
-
-  abbrev from : ℕ
-  from = start + 2 * n + 1 - count
-
-  abbrev behind : ℕ
-  behind = start + words - from
-
-  abbrev pub lent : List ℤ
-  lent = part store from behind
-
-  pub record Block : Type 0 where
-    pub lent_length : length lent ≡ behind
-    pub lent_at : (i : ℕ) → i < length lent → at lent i ≡ at level (2 * n + 1 - count + i)
-    pub lent_small : (c : ℕ) → ((k : ℕ) → nat_abs (at level k) ≤ c) → (i : ℕ) → nat_abs (at lent i) ≤ c
-    pub inside : n + 64 ≤ half_length (length level)
-
-  -- a block that lies inside the level, which lies inside the store
-  pub block : count ≤ 2 * n + 1 → 2 * n + 127 ≤ words → start + words ≤ length store → Block
-  block before after all = record {
-    lent_length = long;
-    lent_at = word;
-    lent_small = λ c small i. go c small i (dec_le (suc i) (length lent));
-    inside = let e = part_length store start words all in omega (arith, half_length_holds (length level) (n + 63) (omega (arith, e)));
-  }
-    where
-      long : length lent ≡ behind
-      long = part_length store from behind (omega arith)
-
-      word : (i : ℕ) → i < length lent → at lent i ≡ at level (2 * n + 1 - count + i)
-      word i l =
-          let e : from + i ≡ start + (2 * n + 1 - count + i) = omega arith in
-          at_part store from behind i (omega (arith, long)) ∙ ap (at store) e ∙ sym (at_part store start words (2 * n + 1 - count + i) (omega (arith, long)))
-
-      go : (c : ℕ) → ((k : ℕ) → nat_abs (at level k) ≤ c) → (i : ℕ) → Dec (i < length lent) → nat_abs (at lent i) ≤ c
-      go c small i (yes l) = rw (word i l) (small (2 * n + 1 - count + i))
-      go c small i (no l) = rw (at_outside lent i (omega arith)) (omega arith)
 
 -- pairs in a row
 in_row : (s k : ℕ) → place_of (0 + s) (2 + s) k ≡ s + 2 * k

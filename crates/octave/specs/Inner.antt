@@ -1,8 +1,8 @@
 -- Definitions that only inner functions' contracts cite: no rule of document 01, but a step of the code that computes one.
-use Rattle.std.specs.Prelude.{Bool, cond, List, ◌≡◌, ℕ, ◌+◌, ◌*◌, ◌/◌, ◌≤◌, ◌<◌, pred, ℤ, pos, negsuc, nat_abs, ◌-ℤ◌, length}
+use Rattle.std.specs.Prelude.{List, ◌≡◌, ℕ, ◌+◌, ◌*◌, ◌/◌, ◌<◌, pred, ℤ, pos, negsuc, nat_abs, ◌-ℤ◌, length}
 use Rattle.arith.specs.Limit.{limit}
 use Rattle.arith.specs.Lists.{at}
-use Rattle.book.specs.Inner.{HalfBand}
+use Rattle.octave.specs.Octave.{level_word}
 
 -- tap c in the order of time, limited to 16 bits; 0 behind the last
 abbrev pub time_tap : List ℤ → ℕ → ℤ
@@ -24,6 +24,8 @@ BandRows h rows =
     ((j : ℕ) → j < 16 → (at rows (2 * j) ≡ limit (negsuc 32767) (pos 32767) (at h 0)) × (at rows (2 * j + 1) ≡ pos 0))
     × ((k j : ℕ) → k < length h / 2 → j < 16 → (at rows (32 * (k + 1) + 2 * j) ≡ odd_tap h (2 * k)) × (at rows (32 * (k + 1) + 2 * j + 1) ≡ odd_tap h (2 * k + 1)))
 
--- the rows of the way that is taken
-abbrev pub Ready : Bool → List ℤ → List ℤ → Type 0
-Ready band h rows = cond band ((2 ≤ length h) × HalfBand h × BandRows h rows) (Rows h rows)
+-- ---- words of the level above
+
+-- its words from word n on
+abbrev pub WordsFrom : List ℤ → List ℤ → ℕ → List ℤ → Type 0
+WordsFrom h level n words = (i : ℕ) → i < length words → at words i ≡ level_word h level (n + i)

@@ -1,65 +1,72 @@
-// Sixty-four words of a level, by the way that its taps and words allow.
+// Words of the level above a level, sixty-four at a time where taps and words allow.
 
-ghost use Rattle.std.specs.Prelude.{true, ◌≡◌, ℕ, ◌+◌, ◌*◌, ◌^◌, ◌≤◌, ◌<◌, pos, nat_abs, length, ◌<ℤ◌};
-ghost use Rattle.arith.specs.Lists.{at, part, overwrite};
-ghost use Rattle.book.specs.Check.{tap_sum};
+ghost use Rattle.std.specs.Prelude.{◌≡◌, ℕ, ◌+◌, ◌*◌, ◌^◌, ◌≤◌, nat_abs, length};
+ghost use Rattle.arith.specs.Lists.{at};
+ghost use Rattle.book.specs.Inner.{HalfBand};
 ghost use Rattle.pair_sums.specs.Pairs.{Samples};
-ghost use Rattle.octave.specs.Octave.{next_level};
-ghost use Rattle.octave.specs.Inner.{Ready};
+ghost use Rattle.pair_sums.specs.declared.scratch.Form.TheVariants.{OnePart};
+ghost use Rattle.octave.specs.Octave.{half_length};
+ghost use Rattle.octave.specs.Inner.{Rows, BandRows, WordsFrom};
+ghost use Rattle.octave.specs.declared.blocks.Way.TheVariants.{EveryTap, OddTaps};
 
-use crate::{groups, half_band};
+use crate::taps::Taps;
+use crate::{groups, half_band, write_words};
+use pair_sums::scratch::{Form, Scratch};
 
-// Writes the rows of the taps, and tells their way: true for half-band taps. Fewer than seven go the other way, which is as fast for them.
-pub(crate) fn make_rows(taps: &[i32], rows: &mut [i16; 1312]) -> bool
-    requires { (1 ≤ length taps.now) × (length taps.now ≤ 41) × (tap_sum taps.now ≤ 32768) × (length rows.old ≡ 1312) }
-    ensures { Ready result taps.now rows.new }
-{
-    if taps.len() < 7 {
-        groups::write_rows(taps, rows);
-        return false;
-    }
-    if !book::half_band(taps) {
-        groups::write_rows(taps, rows);
-        return false;
-    }
-    half_band::write_band_rows(taps, rows);
-    true
+// Which taps stand in the rows.
+#[derive(Clone, Copy)]
+pub(crate) enum Way {
+    // all, in the order of time
+    EveryTap,
+    // the centre, and those at an odd distance: half-band taps have no others
+    OddTaps,
 }
 
-// Writes words n to n + 63 of the level above the `words` words from place `start` on, where all of it lies inside the level. The caller lends the
-// places of parts and sums, which are not cleared each time.
-pub(crate) fn write_block(
-    taps: &[i32],
-    rows: &[i16; 1312],
-    high: &mut [i16; 208],
-    low: &mut [i16; 208],
-    upper: &mut [i32; 64],
-    lower: &mut [i32; 64],
-    store: &mut [i32],
-    start: usize,
-    words: usize,
-    n: usize,
-    band: bool,
-    samples: bool,
-)
-    requires in_bounds { (1 ≤ length taps.now) × (length taps.now ≤ 41) × (tap_sum taps.now ≤ 32768) × (at taps.now 0 <ℤ pos 32768) × Ready band taps.now rows.now }
-    requires taps_len_bound { (length taps.now ≤ 2 * n + 1) × (2 * n + length taps.now + 135 ≤ words) × (start + words + n + 64 ≤ length store.old) }
-    requires high_len { (length high.old ≡ 208) × (length low.old ≡ 208) × (length upper.old ≡ 64) × (length lower.old ≡ 64) }
-    requires by_index { ((k : ℕ) → nat_abs (at (part store.old start words) k) ≤ 2 ^ 26) × (samples ≡ true → Samples (part store.old start words)) }
-    ensures store_after { store.new ≡ overwrite store.old (start + words + n) (part (next_level taps.now (part store.old start words)) n 64) }
-    ensures high_len_2 { (length high.new ≡ 208) × (length low.new ≡ 208) × (length upper.new ≡ 64) × (length lower.new ≡ 64) }
+// A level, its taps, and how blocks of words come from them.
+#[derive(Drop)]
+pub(crate) struct Plan<'a> {
+    pub taps: Taps<'a>,
+    pub level: &'a [i32],
+    pub way: Way,
+    pub rows: &'a [i16; 1312],
+    pub form: Form,
+    ghost small: { (k : ℕ) → nat_abs (at level.now k) ≤ 2 ^ 26 },
+    ghost every_tap: { way ≡ EveryTap → Rows taps.words.now rows.now },
+    ghost odd_taps: { way ≡ OddTaps → (2 ≤ length taps.words.now) × HalfBand taps.words.now × BandRows taps.words.now rows.now },
+    ghost samples: { form ≡ OnePart → Samples level.now },
+}
+
+// Writes the rows of the taps. Fewer than seven go by every tap, which is as fast for them.
+pub(crate) fn write_rows(taps: &Taps<'_>, rows: &mut [i16; 1312]) -> Way
+    ensures every_tap { result ≡ EveryTap → Rows taps.now.words.now rows.new }
+    ensures odd_taps { result ≡ OddTaps → (2 ≤ length taps.now.words.now) × HalfBand taps.now.words.now × BandRows taps.now.words.now rows.new }
 {
-    if samples {
-        if band {
-            half_band::sample_block(taps, rows, high, upper, store, start, words, n);
+    if taps.words.len() < 7 || !book::half_band(taps.words) {
+        groups::write_rows(taps, rows);
+        return Way::EveryTap;
+    }
+    half_band::write_rows(taps, rows);
+    Way::OddTaps
+}
+
+impl Plan<'_> {
+    // Writes the words of the level above from word n on, at most sixty-four. A centre tap of 32768 has no 16-bit number, so that its words are
+    // written one by one too.
+    #[tactic(auto, unfolding(crate::specs::Octave::half_length))]
+    pub(crate) fn write(&self, n: usize, scratch: &mut Scratch, words: &mut [i32])
+        requires inside { n + length words.old ≤ half_length (length self.now.level.now) }
+        requires count { length words.old ≤ 64 }
+        requires reach { length self.now.taps.words.now ≤ 2 * n + 1 }
+        ensures { WordsFrom self.now.taps.words.now self.now.level.now n words.new }
+    {
+        let taps = self.taps.words;
+        if words.len() < 64 || 32768 <= taps[0] || self.level.len() < 2 * n + taps.len() + 135 {
+            write_words(self, n, words);
             return;
         }
-        groups::sample_block(taps, rows, high, upper, store, start, words, n);
-        return;
+        match self.way {
+            Way::EveryTap => groups::write_block(self, n, scratch, words),
+            Way::OddTaps => half_band::write_block(self, n, scratch, words),
+        }
     }
-    if band {
-        half_band::part_block(taps, rows, high, low, upper, lower, store, start, words, n);
-        return;
-    }
-    groups::part_block(taps, rows, high, low, upper, lower, store, start, words, n);
 }

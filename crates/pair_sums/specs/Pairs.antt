@@ -1,5 +1,5 @@
 -- Words in 16-bit parts, and sums of pairs of them: no rule of document 01, but a step of the code that computes one.
-use Rattle.std.specs.Prelude.{List, ◌≡◌, ℕ, zero, suc, ◌+◌, ◌*◌, ◌/◌, ◌%◌, ◌≤◌, ◌<◌, ℤ, pos, negsuc, nat_abs, ◌+ℤ◌, ◌-ℤ◌, ◌*ℤ◌}
+use Rattle.std.specs.Prelude.{List, ◌≡◌, ℕ, zero, suc, ◌+◌, ◌*◌, ◌/◌, ◌%◌, ◌≤◌, ◌<◌, ℤ, pos, negsuc, nat_abs, ◌+ℤ◌, ◌-ℤ◌, ◌*ℤ◌, length}
 use Rattle.arith.specs.Floor.{floor_div}
 use Rattle.arith.specs.Limit.{limit}
 use Rattle.arith.specs.Lists.{at}
@@ -20,9 +20,13 @@ sample_part x = limit (negsuc 32767) (pos 32767) (floor_div x 256)
 abbrev pub Samples : List ℤ → Type 0
 Samples level = (k : ℕ) → at level k ≡ pos 256 *ℤ sample_part (at level k)
 
+-- f of each word
+abbrev pub Written : List ℤ → (ℤ → ℤ) → List ℤ → Type 0
+Written words f out = (i : ℕ) → i < length words → at out i ≡ f (at words i)
+
 -- f of the first words of pairs, and 104 places on of the second
-abbrev pub Split : (ℤ → ℤ) → List ℤ → ℕ → List ℤ → Type 0
-Split f level count words = (i : ℕ) → i < count → (at words i ≡ f (at level (2 * i))) × (at words (104 + i) ≡ f (at level (2 * i + 1)))
+abbrev pub Split : List ℤ → (ℤ → ℤ) → List ℤ → Type 0
+Split words f out = (i : ℕ) → i < length words / 2 → (at out i ≡ f (at words (2 * i))) × (at out (104 + i) ≡ f (at words (2 * i + 1)))
 
 -- what pair k, whose words begin at p, adds to sum j, which lies 2j words on
 abbrev pub pair_product : List ℤ → List ℤ → ℕ → ℕ → ℕ → ℤ

@@ -6,9 +6,9 @@ use native.Mathlib.Omega.{arith}
 use borrow.Author.Tests.{le-ltb}
 use lib.IntN.{ℤ}
 use Rattle.book.specs.Book.{sizes_of}
-use Rattle.book.specs.Number.{◌otherwise◌, refuse}
+use Rattle.refusal.specs.Number.{◌otherwise◌, refuse}
 use Rattle.book.specs.Check.{book_number}
-use Rattle.book.proofs.Numbers.{none_first, none_second}
+use Rattle.refusal.proofs.Numbers.{none_first, none_second}
 use Rattle.book.proofs.Accepted.{accepted}
 use Rattle.store.specs.Store.{top_level}
 use Rattle.store.specs.Check.{store_number}

@@ -1,3 +1,4 @@
+pub mod Refusing
 pub mod Histories
 pub mod Blocks
 pub mod Accepted

@@ -1,11 +1,13 @@
 -- The answers of the player's calls: for each input the number, the voice and every output word. A refusal hands the voice back as it
 -- came (opening: the zero record) and writes no output word.
-use Rattle.std.specs.Prelude.{cond, List, ℕ, eqb, ℤ, pos, length, replicate}
+use Rattle.std.specs.Prelude.{cond, List, ℕ, eqb, ℤ, pos, length, replicate, Result, Ok, Err}
+use Rattle.refusal.specs.Number.{number}
 use Rattle.book.specs.Book.{sizes_of}
 use Rattle.control.specs.declared.Card.{Card}
 use Rattle.player.specs.declared.Voice.{Voice}
 use Rattle.control.specs.declared.Order.{Order}
-use Rattle.player.specs.declared.Answer.{Answer}
+use Rattle.player.specs.declared.Refused.{Refused}
+use Rattle.player.specs.declared.Play.{Play}
 use Rattle.control.specs.Rate.{rate_of}
 use Rattle.control.specs.Moves.{no_glide, no_fade, fresh_control, sought}
 use Rattle.control.specs.Orders.{ordered}
@@ -13,8 +15,18 @@ use Rattle.multiplies.specs.Multiplies.{multiplies}
 use Rattle.player.specs.Outputs.{voice_after, outputs}
 use Rattle.refusals.specs.Refusals.{point_bound, open_number, order_number, seek_number, play_number}
 
+-- what opening, an order and a seek leave: a refusal's number or 0, and the voice
+pub record Answer : Type 0 where
+  pub number : ℕ
+  pub voice : Voice
+
 abbrev pub answer : ℕ → Voice → Answer
 answer n v = record { number = n; voice = v }
+
+-- the same of what the code hands back
+abbrev pub answer_of : Result Voice Refused → Answer
+answer_of (Ok v) = answer 0 v
+answer_of (Err r) = answer (number r.refusal) r.voice
 
 -- 81 points of silence
 abbrev pub silence : List ℤ
@@ -49,6 +61,11 @@ pub record Played : Type 0 where
 
 abbrev pub played : ℕ → Voice → ℕ → List ℤ → Played
 played n v m words = record { number = n; voice = v; multiplies = m; words = words }
+
+-- the same of what the code hands back, and of the words that it leaves
+abbrev pub played_of : Result Play Refused → List ℤ → Played
+played_of (Ok p) words = played 0 p.voice p.multiplies words
+played_of (Err r) words = played (number r.refusal) r.voice 0 words
 
 -- play of an output slice, lent a book and a store; a refused call's multiply count is 0
 unfoldable pub play_answer : List ℤ → List ℤ → Voice → List ℤ → Played

@@ -2,29 +2,40 @@
 
 #![tactic(auto)]
 
+ghost use Rattle.std.specs.Prelude.{◌≡◌};
+
 use control::Control;
+use refusal::Refusal;
 
 mod calls; // open, order, seek and play
 mod outputs; // histories and blocks of outputs
 
 // A voice: its control, and the last 81 points, newest first.
-#[derive(Clone, Copy)]
+#[derive(Clone, Copy, PartialEq, Eq)]
 pub struct Voice {
     pub control: Control,
     pub history: [i32; 81],
 }
 
-// What opening, an order and a seek hand back: a refusal number or 0, and the voice.
-#[derive(Clone, Copy)]
-pub struct Answer {
-    pub number: u32,
+// Why a call is turned away, and the voice: as it came, at opening the zero record.
+#[derive(Clone, Copy, PartialEq, Eq)]
+pub struct Refused {
+    pub refusal: Refusal,
     pub voice: Voice,
 }
 
-// What a play hands back: a refusal number or 0, the voice, and its multiply count, which is 0 where it is refused.
-#[derive(Clone, Copy)]
-pub struct PlayAnswer {
-    pub number: u32,
+// What an accepted play hands back: the voice, and its multiply count.
+#[derive(Clone, Copy, PartialEq, Eq)]
+pub struct Play {
     pub voice: Voice,
     pub multiplies: u64,
+}
+
+// For the `?` of a caller that holds the voice itself.
+impl From<Refused> for Refusal {
+    ghost from_gives = { λ r n. n ≡ r.refusal };
+
+    fn from(refused: Refused) -> Refusal {
+        refused.refusal
+    }
 }

@@ -5,7 +5,8 @@
 #![tactic(auto)]
 
 use control::{Card, Order};
-use player::{Answer, Voice};
+use damage::{Field, with};
+use player::{Play, Refused, Voice};
 use std::io;
 use std::io::Write;
 
@@ -38,6 +39,32 @@ const FAR: u64 = 1152921504606846977;
 // A point past the loudest, 2^29.
 const LOUD: u64 = 536870913;
 
+// The voice that a call hands back, accepted or refused.
+fn after(answer: Result<Voice, Refused>) -> Voice {
+    answer.unwrap_or_else(|refused| refused.voice)
+}
+
+// The same of a play.
+fn after_play(answer: Result<Play, Refused>) -> Voice {
+    match answer {
+        Ok(played) => played.voice,
+        Err(refused) => refused.voice,
+    }
+}
+
+// The number of an answer, 0 where it is accepted.
+fn number_of<T>(answer: &Result<T, Refused>) -> u32 {
+    match answer {
+        Ok(_) => 0,
+        Err(refused) => refused.refusal.number(),
+    }
+}
+
+// A play's multiply count, 0 where it is refused.
+fn count_of(answer: Result<Play, Refused>) -> u64 {
+    answer.map_or(0, |played| played.multiplies)
+}
+
 // A number, and whether the voice came back as it was.
 fn number(
     out: &mut impl Write,
@@ -46,25 +73,24 @@ fn number(
     number: u32,
     v: &Voice,
 ) -> io::Result<()> {
-    let after = if damage::same(given, v) {
-        "kept"
-    } else {
-        "moved"
-    };
+    let after = if given == v { "kept" } else { "moved" };
     write!(out, "{label} {number} {after}")
 }
 
-fn line(out: &mut impl Write, label: &str, given: &Voice, a: Answer) -> io::Result<()> {
-    let v = a.voice;
-    number(out, label, given, a.number, &v)?;
+fn line(
+    out: &mut impl Write,
+    label: &str,
+    given: &Voice,
+    answer: Result<Voice, Refused>,
+) -> io::Result<()> {
+    number(out, label, given, number_of(&answer), &after(answer))?;
     print::end_line(out)
 }
 
 fn opening(out: &mut impl Write, label: &str, rate: f32, top: u32) -> io::Result<()> {
-    let a = Voice::open(Card { rate, top });
-    let v = a.voice;
-    let c = v.control;
-    writeln!(out, "{label} {} {}", a.number, c.rate)
+    let answer = Voice::open(Card { rate, top });
+    let v = after(answer);
+    writeln!(out, "{label} {} {}", number_of(&answer), v.control.rate)
 }
 
 // Rates at the limits.
@@ -90,20 +116,19 @@ fn no_rates(out: &mut impl Write) -> io::Result<()> {
 
 // A voice at rate 1 with top level 1.
 fn fresh() -> Voice {
-    Voice::open(Card { rate: 1.0, top: 1 }).voice
+    after(Voice::open(Card { rate: 1.0, top: 1 }))
 }
 
 // The same in a glide.
 fn gliding(target: f32, count: u32) -> Voice {
-    fresh().order(Order::Glide { target, count }).voice
+    after(fresh().order(Order::Glide { target, count }))
 }
 
 // One output more, with its rate.
 fn one_output(out: &mut impl Write, v: Voice) -> io::Result<Voice> {
     let mut block = [0i16; 1];
-    let w = v.play(&K, &SILENT, &mut block).voice;
-    let c = w.control;
-    print::next_decimal(out, c.rate)?;
+    let w = after_play(v.play(&K, &SILENT, &mut block));
+    print::next(out, w.control.rate)?;
     Ok(w)
 }
 
@@ -114,23 +139,19 @@ fn glide(out: &mut impl Write) -> io::Result<()> {
     for _ in 0..5 {
         v = one_output(out, v)?;
     }
-    let c = v.control;
-    let g = c.glide;
-    print::next_number(out, g.count)?;
+    print::next(out, v.control.glide.count)?;
     print::end_line(out)
 }
 
 // The rate of a voice, and its current level: in a fade the old one.
 fn rate_and_level(out: &mut impl Write, v: &Voice) -> io::Result<()> {
-    let c = v.control;
-    let f = c.fade;
-    write!(out, " {} {}", c.rate, f.from)
+    write!(out, " {} {}", v.control.rate, v.control.fade.from)
 }
 
 // One output more, with its rate and the level after it.
 fn level_after(out: &mut impl Write, v: Voice, book: &[i32]) -> io::Result<Voice> {
     let mut block = [0i16; 1];
-    let w = v.play(book, &SILENT_4, &mut block).voice;
+    let w = after_play(v.play(book, &SILENT_4, &mut block));
     rate_and_level(out, &w)?;
     Ok(w)
 }
@@ -152,7 +173,7 @@ fn glide_levels(
     book: &[i32],
 ) -> io::Result<Voice> {
     write!(out, "{label}")?;
-    let g = v.order(Order::Glide { target, count: 8 }).voice;
+    let g = after(v.order(Order::Glide { target, count: 8 }));
     let half = four_levels(out, g, book)?;
     let w = four_levels(out, half, book)?;
     print::end_line(out)?;
@@ -161,7 +182,7 @@ fn glide_levels(
 
 // A voice with top level 4.
 fn high(rate: f32) -> Voice {
-    Voice::open(Card { rate, top: 4 }).voice
+    after(Voice::open(Card { rate, top: 4 }))
 }
 
 // From 2 down past 1.875 to 1.75 and up again, with a fade of one point and of four.
@@ -175,7 +196,7 @@ fn glides_past_the_band(out: &mut impl Write) -> io::Result<()> {
 
 // One output after a jump.
 fn level_at(out: &mut impl Write, v: Voice, rate: f32) -> io::Result<Voice> {
-    level_after(out, v.order(Order::Jump(rate)).voice, &K)
+    level_after(out, after(v.order(Order::Jump(rate))), &K)
 }
 
 // A level's band: opened at its end, and from the level itself to that end, just below it and back, and to the lowest rate.
@@ -201,9 +222,9 @@ fn bands(out: &mut impl Write) -> io::Result<()> {
 // One output more, with its multiply count.
 fn count_after(out: &mut impl Write, v: Voice, book: &[i32]) -> io::Result<Voice> {
     let mut block = [0i16; 1];
-    let a = v.play(book, &SILENT, &mut block);
-    print::next_decimal(out, a.multiplies)?;
-    Ok(a.voice)
+    let answer = v.play(book, &SILENT, &mut block);
+    print::next(out, count_of(answer))?;
+    Ok(after_play(answer))
 }
 
 fn two_counts(out: &mut impl Write, v: Voice, book: &[i32]) -> io::Result<Voice> {
@@ -215,12 +236,11 @@ fn two_counts(out: &mut impl Write, v: Voice, book: &[i32]) -> io::Result<Voice>
 fn counts(out: &mut impl Write, label: &str, book: &[i32]) -> io::Result<()> {
     let mut block = [0i16; 4];
     write!(out, "{label}")?;
-    let v = two_counts(out, fresh(), book)?
-        .order(Order::Jump(2.0))
-        .voice;
-    let w = two_counts(out, damage::copied(&v), book)?;
+    let rested = two_counts(out, fresh(), book)?;
+    let v = after(rested.order(Order::Jump(2.0)));
+    let w = two_counts(out, v, book)?;
     two_counts(out, w, book)?;
-    print::next_decimal(out, v.play(book, &SILENT, &mut block).multiplies)?;
+    print::next(out, count_of(v.play(book, &SILENT, &mut block)))?;
     print::end_line(out)
 }
 
@@ -233,34 +253,26 @@ fn all_counts(out: &mut impl Write) -> io::Result<()> {
 }
 
 fn jumped(out: &mut impl Write, label: &str, v: &Voice, rate: f32) -> io::Result<()> {
-    line(out, label, v, damage::copied(v).order(Order::Jump(rate)))
+    line(out, label, v, v.order(Order::Jump(rate)))
 }
 
 fn glided(out: &mut impl Write, label: &str, v: &Voice, target: f32, count: u32) -> io::Result<()> {
-    line(
-        out,
-        label,
-        v,
-        damage::copied(v).order(Order::Glide { target, count }),
-    )
+    line(out, label, v, v.order(Order::Glide { target, count }))
 }
 
 fn sought(out: &mut impl Write, label: &str, v: &Voice, position: u64) -> io::Result<()> {
-    line(out, label, v, damage::copied(v).seek(position))
+    line(out, label, v, v.seek(position))
 }
 
+// The line of a play.
 fn played(
     out: &mut impl Write,
     label: &str,
-    v: &Voice,
-    book: &[i32],
-    store: &[i32],
-    block: &mut [i16],
+    given: &Voice,
+    answer: Result<Play, Refused>,
 ) -> io::Result<()> {
-    let a = damage::copied(v).play(book, store, block);
-    let w = a.voice;
-    number(out, label, v, a.number, &w)?;
-    print::next_decimal(out, a.multiplies)?;
+    number(out, label, given, number_of(&answer), &after_play(answer))?;
+    print::next(out, count_of(answer))?;
     print::end_line(out)
 }
 
@@ -275,23 +287,18 @@ fn orders(out: &mut impl Write) -> io::Result<()> {
     glided(
         out,
         "glide 4, P",
-        &damage::with(fresh(), damage::POSITION, FAR),
+        &with(fresh(), Field::Position, FAR),
         4.0,
         0,
     )?;
-    jumped(
-        out,
-        "jump 2, i",
-        &damage::with(fresh(), damage::STEP, 7),
-        2.0,
-    )
+    jumped(out, "jump 2, i", &with(fresh(), Field::Step, 7), 2.0)
 }
 
 fn seeks(out: &mut impl Write) -> io::Result<()> {
     let v = fresh();
     sought(out, "seek 2^60", &v, FAR - 1)?;
     sought(out, "seek 2^60 + 1", &v, FAR)?;
-    let loud = damage::with(fresh(), damage::POINT, LOUD);
+    let loud = with(fresh(), Field::Point, LOUD);
     sought(out, "seek 2^60 + 1, point", &loud, FAR)
 }
 
@@ -300,66 +307,69 @@ fn state(out: &mut impl Write, label: &str, v: &Voice) -> io::Result<()> {
     let mut block = [7i16; 2];
     jumped(out, label, v, 1.5)?;
     sought(out, label, v, 5)?;
-    played(out, label, v, &SLOW, &SILENT, &mut block)
+    played(out, label, v, v.play(&SLOW, &SILENT, &mut block))
 }
 
 // A fresh voice with a field changed.
-fn damaged(out: &mut impl Write, label: &str, field: u32, x: u64) -> io::Result<()> {
-    state(out, label, &damage::with(fresh(), field, x))
+fn damaged(out: &mut impl Write, label: &str, field: Field, x: u64) -> io::Result<()> {
+    state(out, label, &with(fresh(), field, x))
 }
 
 // A fresh voice with two fields changed.
 fn damaged_twice(
     out: &mut impl Write,
     label: &str,
-    field: u32,
-    x: u64,
-    other: u32,
-    y: u64,
+    first: (Field, u64),
+    second: (Field, u64),
 ) -> io::Result<()> {
-    let v = damage::with(fresh(), field, x);
-    state(out, label, &damage::with(v, other, y))
+    let v = with(fresh(), first.0, first.1);
+    state(out, label, &with(v, second.0, second.1))
 }
 
 // A voice in a glide with a field changed.
-fn damaged_glide(out: &mut impl Write, label: &str, field: u32, x: u64) -> io::Result<()> {
-    state(out, label, &damage::with(gliding(1.5, 9), field, x))
+fn damaged_glide(out: &mut impl Write, label: &str, field: Field, x: u64) -> io::Result<()> {
+    state(out, label, &with(gliding(1.5, 9), field, x))
 }
 
 fn fades(out: &mut impl Write) -> io::Result<()> {
-    damaged(out, "T 5", damage::TOP, 5)?;
-    damaged(out, "from 2", damage::FROM, 2)?;
-    damaged(out, "to 2", damage::TO, 2)?;
-    damaged(out, "unequal at rest", damage::TO, 1)?;
-    damaged(out, "equal in a fade", damage::STEP, 1)?;
-    damaged_twice(out, "i 4", damage::STEP, 4, damage::TO, 1)?;
-    damaged_twice(out, "i 3", damage::STEP, 3, damage::TO, 1)
+    damaged(out, "T 5", Field::Top, 5)?;
+    damaged(out, "from 2", Field::From, 2)?;
+    damaged(out, "to 2", Field::To, 2)?;
+    damaged(out, "unequal at rest", Field::To, 1)?;
+    damaged(out, "equal in a fade", Field::Step, 1)?;
+    damaged_twice(out, "i 4", (Field::Step, 4), (Field::To, 1))?;
+    damaged_twice(out, "i 3", (Field::Step, 3), (Field::To, 1))
 }
 
 fn rates(out: &mut impl Write) -> io::Result<()> {
-    damaged(out, "R low", damage::RATE, 8388607)?;
-    damaged(out, "R high", damage::RATE, 536870912)?;
-    damaged(out, "R0 at rest", damage::START, 1)?;
-    damaged_glide(out, "R0 low", damage::START, 8388607)?;
-    damaged_glide(out, "R1 high", damage::TARGET, 536870912)?;
-    damaged_glide(out, "c 65537", damage::COUNT, 65537)?;
-    damaged_glide(out, "j 9", damage::DONE, 9)?;
-    damaged_glide(out, "j 8", damage::DONE, 8)
+    damaged(out, "R low", Field::Rate, 8388607)?;
+    damaged(out, "R high", Field::Rate, 536870912)?;
+    damaged(out, "R0 at rest", Field::Start, 1)?;
+    damaged_glide(out, "R0 low", Field::Start, 8388607)?;
+    damaged_glide(out, "R1 high", Field::Target, 536870912)?;
+    damaged_glide(out, "c 65537", Field::Count, 65537)?;
+    damaged_glide(out, "j 9", Field::Done, 9)?;
+    damaged_glide(out, "j 8", Field::Done, 8)
 }
 
 fn places(out: &mut impl Write) -> io::Result<()> {
-    damaged(out, "P high", damage::POSITION, FAR)?;
-    damaged(out, "point high", damage::POINT, LOUD)?;
-    damaged(out, "point 2^29", damage::POINT, LOUD - 1)
+    damaged(out, "P high", Field::Position, FAR)?;
+    damaged(out, "point high", Field::Point, LOUD)?;
+    damaged(out, "point 2^29", Field::Point, LOUD - 1)
 }
 
 // Two conditions at once.
 fn pairs(out: &mut impl Write) -> io::Result<()> {
-    damaged(out, "13 and 14", damage::TO, 2)?;
-    damaged_twice(out, "13 and 15", damage::TO, 2, damage::RATE, 1)?;
-    damaged_twice(out, "14 and 15", damage::TO, 1, damage::RATE, 1)?;
-    damaged_twice(out, "15 and 16", damage::RATE, 1, damage::POSITION, FAR)?;
-    damaged_twice(out, "16 and 17", damage::POSITION, FAR, damage::POINT, LOUD)
+    damaged(out, "13 and 14", Field::To, 2)?;
+    damaged_twice(out, "13 and 15", (Field::To, 2), (Field::Rate, 1))?;
+    damaged_twice(out, "14 and 15", (Field::To, 1), (Field::Rate, 1))?;
+    damaged_twice(out, "15 and 16", (Field::Rate, 1), (Field::Position, FAR))?;
+    damaged_twice(
+        out,
+        "16 and 17",
+        (Field::Position, FAR),
+        (Field::Point, LOUD),
+    )
 }
 
 // A play of two outputs, and what they are afterwards.
@@ -371,8 +381,8 @@ fn lent(
     store: &[i32],
 ) -> io::Result<()> {
     let mut block = [7i16; 2];
-    played(out, label, &v, book, store, &mut block)?;
-    print::samples(out, &block)
+    played(out, label, &v, v.play(book, store, &mut block))?;
+    print::line(out, &block)
 }
 
 fn lent_book(out: &mut impl Write, label: &str, book: &[i32]) -> io::Result<()> {
@@ -420,9 +430,8 @@ fn lent_store(out: &mut impl Write, label: &str, store: &[i32]) -> io::Result<()
 // The silent store with word i of its header changed to x.
 fn header_with(i: usize, x: i32) -> [i32; 9] {
     let mut store = SILENT;
-    if i < 4 {
-        store[i] = x;
-        return store;
+    if let Some(word) = store[..4].get_mut(i) {
+        *word = x;
     }
     store
 }
@@ -458,11 +467,11 @@ fn headers(out: &mut impl Write) -> io::Result<()> {
 fn lent_voice(
     out: &mut impl Write,
     label: &str,
-    field: u32,
+    field: Field,
     x: u64,
     store: &[i32],
 ) -> io::Result<()> {
-    lent(out, label, damage::with(fresh(), field, x), &K, store)
+    lent(out, label, with(fresh(), field, x), &K, store)
 }
 
 // Conditions of a book, a store and a voice at once.
@@ -471,18 +480,18 @@ fn mixed(out: &mut impl Write) -> io::Result<()> {
     lent_voice(
         out,
         "play 18 and 13",
-        damage::TO,
+        Field::To,
         2,
         &[3, 1, 2, 2, 0, 0, 0, 0, 0],
     )?;
-    lent_voice(out, "play 13 and 19", damage::TOP, 5, &SILENT)?;
-    lent_voice(out, "play 19, T 0", damage::TOP, 0, &SILENT)?;
-    lent_voice(out, "play 19, T 2", damage::TOP, 2, &SILENT)?;
-    lent_voice(out, "play 19 and 14", damage::STEP, 1, &[3, 0, 3, 0, 0, 0])?;
+    lent_voice(out, "play 13 and 19", Field::Top, 5, &SILENT)?;
+    lent_voice(out, "play 19, T 0", Field::Top, 0, &SILENT)?;
+    lent_voice(out, "play 19, T 2", Field::Top, 2, &SILENT)?;
+    lent_voice(out, "play 19 and 14", Field::Step, 1, &[3, 0, 3, 0, 0, 0])?;
     lent_voice(
         out,
         "play 19 and 17",
-        damage::POINT,
+        Field::Point,
         LOUD,
         &[3, 0, 3, 0, 0, 0],
     )
@@ -491,7 +500,8 @@ fn mixed(out: &mut impl Write) -> io::Result<()> {
 // A play of no outputs leaves the voice as it was.
 fn no_outputs(out: &mut impl Write) -> io::Result<()> {
     let mut block = [7i16; 1];
-    played(out, "play 0", &fresh(), &K, &SILENT, &mut block[..0])
+    let v = fresh();
+    played(out, "play 0", &v, v.play(&K, &SILENT, &mut block[..0]))
 }
 
 fn main(rt: HostRuntime) -> io::Result<()> {

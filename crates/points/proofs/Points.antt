@@ -19,24 +19,16 @@ use Rattle.values.proofs.Values.{mean-≤, value_small}
 use Rattle.control.specs.declared.Plan.{Plan}
 use Rattle.points.specs.Points.{point}
 use Rattle.points.specs.Inner.{faded}
-use Rattle.values.specs.declared.layout.Layout.{Layout}
-use Rattle.values.specs.Layout.{LayoutOf}
-use Rattle.values.proofs.Layouts.{fewer_levels}
 use Rattle.control.specs.declared.Control.{Control}
 use Rattle.control.specs.Moves.{point_plan}
 use Rattle.control.specs.Valid.{Valid}
 use Rattle.positions.specs.Runs.{run_plan}
 use Rattle.control.proofs.Kept.{plan_old, plan_new, plan_step, plan_position}
 
--- ---- what a point reads: levels that the store has room for, i up to F, P up to 2^60
+-- ---- what a point reads: levels up to the control's top one, i up to F, P up to 2^60
 
-pub plan_read : {F : ℕ} {c : Control} {b store : List ℤ} {l : Layout} → Valid F c → LayoutOf b store c.top l → (p : Plan) → p ≡ point_plan c
-    → (LayoutOf b store p.old l × LayoutOf b store p.new l) × ((p.old ≤ 4) × (p.new ≤ 4) × (p.step ≤ F) × (p.position ≤ 2 ^ 60))
-plan_read s o p e =
-    rw e (
-      (fewer_levels o (plan_old s), fewer_levels o (plan_new s)),
-      (omega (arith, plan_old s, s.top_high), omega (arith, plan_new s, s.top_high), plan_step s, plan_position s),
-    )
+pub plan_read : {F : ℕ} {c : Control} → Valid F c → (p : Plan) → p ≡ point_plan c → (p.old ≤ c.top) × (p.new ≤ c.top) × (p.step ≤ F) × (p.position ≤ 2 ^ 60)
+plan_read s p e = rw e (plan_old s, plan_new s, plan_step s, plan_position s)
 
 -- ---- how large a point is
 

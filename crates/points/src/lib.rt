@@ -3,10 +3,9 @@
 
 #![tactic(auto)]
 
-ghost use Rattle.std.specs.Prelude.{◌≡◌, ◌-◌, ◌*◌, ◌≤◌, length};
+ghost use Rattle.std.specs.Prelude.{◌≡◌, ◌-◌, ◌*◌, ◌≤◌};
 ghost use Rattle.arith.specs.Lists.{overwrite};
-ghost use Rattle.values.specs.Layout.{LayoutOf};
-ghost use Rattle.rows.specs.Rows.{RowsOf};
+ghost use Rattle.store.specs.Store.{top_level};
 ghost use Rattle.control.specs.Valid.{Valid};
 ghost use Rattle.positions.specs.Runs.{control_after};
 ghost use Rattle.multiplies.specs.Inner.{run_values};
@@ -18,7 +17,7 @@ use control::Control;
 use control::moves::{glide_moved, point_moved, point_plan};
 use multiplies::values_made;
 use positions::run_positions;
-use values::layout::Layout;
+use windows::source::Source;
 
 mod planned; // points from their plans
 
@@ -31,70 +30,48 @@ pub struct PointRun {
 }
 
 // Writes the two points of one output, whatever they need.
-fn one_output(
-    line: &mut [i64],
-    c: Control,
-    book: &[i32],
-    store: &[i32],
-    layout: Layout,
-    table: &[i16],
-) -> PointRun
-    requires { LayoutOf book.now store.now c.top layout × Valid layout.fade c × (length line.old ≡ 209) × RowsOf book.now table.now }
-    ensures { (result.made ≡ 1) × (result.control ≡ control_after layout.fade c 1) × (result.values ≡ run_values layout.fade c 1) × (line.new ≡ overwrite line.old 126 (run_points (point book.now store.now) layout.fade c 1)) }
+fn one_output(line: &mut [i64; 209], c: Control, source: &Source) -> PointRun
+    requires { (c.top ≤ top_level source.now.store.now) × Valid source.now.layout.fade c }
+    ensures made { (result.made ≡ 1) × (result.control ≡ control_after source.now.layout.fade c 1)
+        × (result.values ≡ run_values source.now.layout.fade c 1) }
+    ensures points { line.new ≡ overwrite line.old 126 (run_points (point source.now.book.now source.now.store.now) source.now.layout.fade c 1) }
 {
-    let fade = layout.fade;
+    let fade = source.layout.fade;
     let one = glide_moved(c);
     let p = point_plan(one);
-    let first = one_point(p, book, store, layout, table);
+    let first = one_point(p, source);
     let two = point_moved(one, fade);
     let q = point_plan(two);
-    let second = one_point(q, book, store, layout, table);
+    let second = one_point(q, source);
     line[126] = second;
     line[127] = first;
-    let control = point_moved(two, fade);
-    let values = values_made(p.step) + values_made(q.step);
     PointRun {
-        control,
+        control: point_moved(two, fade),
         made: 1,
-        values,
+        values: values_made(p.step) + values_made(q.step),
     }
 }
 
 // Writes the points of the next outputs, up to `count` of them: a run without a fade, a run inside one, or one output.
-pub fn next_points(
-    line: &mut [i64],
-    c: Control,
-    count: usize,
-    book: &[i32],
-    store: &[i32],
-    layout: Layout,
-    table: &[i16],
-) -> PointRun
-    requires { LayoutOf book.now store.now c.top layout × Valid layout.fade c × (length line.old ≡ 209) × (1 ≤ count) × (count ≤ 64) × RowsOf book.now table.now }
-    ensures le_made { (1 ≤ result.made) × (result.made ≤ count) × (result.control ≡ control_after layout.fade c result.made) × (result.values ≡ run_values layout.fade c result.made) }
-    ensures points { line.new ≡ overwrite line.old (128 - 2 * result.made) (run_points (point book.now store.now) layout.fade c result.made) }
+pub fn next_points(line: &mut [i64; 209], c: Control, count: usize, source: &Source) -> PointRun
+    requires control { (c.top ≤ top_level source.now.store.now) × Valid source.now.layout.fade c }
+    requires count { (1 ≤ count) × (count ≤ 64) }
+    ensures made { (1 ≤ result.made) × (result.made ≤ count)
+        × (result.control ≡ control_after source.now.layout.fade c result.made)
+        × (result.values ≡ run_values source.now.layout.fade c result.made) }
+    ensures points { line.new ≡ overwrite line.old (128 - 2 * result.made)
+        (run_points (point source.now.book.now source.now.store.now) source.now.layout.fade c result.made) }
 {
     let mut positions = [0u64; 128];
-    let r = run_positions(c, layout.fade, count, &mut positions);
-    let made = r.made;
-    if made == 0 {
-        return one_output(line, c, book, store, layout, table);
+    let run = run_positions(c, source.layout.fade, count, &mut positions);
+    if run.made == 0 {
+        return one_output(line, c, source);
     }
-    let plan = r.plan;
-    let points = 2 * made;
-    planned_points(
-        line,
-        &positions[0..points],
-        plan,
-        book,
-        store,
-        layout,
-        table,
-    );
-    let control = r.control;
+    let points = 2 * run.made;
+    planned_points(line, &positions[..points], run.plan, source);
     PointRun {
-        control,
-        made,
-        values: points * values_made(plan.step),
+        control: run.control,
+        made: run.made,
+        values: points * values_made(run.plan.step),
     }
 }

@@ -3,16 +3,13 @@
 ghost use Rattle.std.specs.Prelude.{◌≡◌, ℕ, suc, ◌+◌, ◌-◌, ◌^◌, ◌≤◌, ◌<◌, pos, nat_abs, ◌+ℤ◌, ◌*ℤ◌, length, get_or};
 ghost use Rattle.arith.specs.Floor.{near};
 ghost use Rattle.arith.specs.Lists.{at, tabulate, overwrite};
-ghost use Rattle.control.specs.declared.Plan.{Plan};
+ghost use Rattle.store.specs.Store.{top_level};
 ghost use Rattle.positions.specs.Runs.{run_plan};
-ghost use Rattle.values.specs.Layout.{LayoutOf};
-ghost use Rattle.rows.specs.Rows.{RowsOf};
 ghost use Rattle.points.specs.Points.{point};
 ghost use Rattle.points.specs.Inner.{faded};
 
 use control::Plan;
-use values::layout::Layout;
-use windows::window::values_along;
+use windows::source::Source;
 
 // A weighted mean of two values, rounded: near(((F − i) × old + i × new) / F).
 fn mean(old: i64, new: i64, step: usize, fade: usize) -> i64
@@ -23,60 +20,55 @@ fn mean(old: i64, new: i64, step: usize, fade: usize) -> i64
     arith::near_by(sum, fade as i64)
 }
 
-// Writes `count` means of the values before place 128 of two levels, the first at `step` of the fade, one step more at each.
-fn fade_values(line: &mut [i64], old: &[i64], new: &[i64], count: usize, step: usize, fade: usize)
-    requires in_bounds { (128 ≤ length line.old) × (128 ≤ length old.now) × (128 ≤ length new.now) × (count ≤ 128) × (step + count ≤ fade + 1) × (1 ≤ fade) × (fade ≤ 256) }
-    requires by_index { (k : ℕ) → k < count → (nat_abs (at old.now (127 - k)) ≤ 2 ^ 29) × (nat_abs (at new.now (127 - k)) ≤ 2 ^ 29) }
-    ensures { line.new ≡ overwrite line.old (128 - count) (tabulate count (λ j. faded fade (step + (count - suc j)) (at old.now (127 - (count - suc j))) (at new.now (127 - (count - suc j))))) }
+// Writes the means of the values of two levels, newest first: the first is at step `last` of the fade, and each other one step before.
+fn fade_values(line: &mut [i64], old: &[i64], new: &[i64], last: usize, fade: usize)
+    requires lengths { (length old.now ≡ length line.old) × (length new.now ≡ length line.old) }
+    requires steps { (length line.old ≤ last + 1) × (last ≤ fade) × (1 ≤ fade) × (fade ≤ 256) }
+    requires small { (k : ℕ) → k < length line.old → (nat_abs (at old.now k) ≤ 2 ^ 29) × (nat_abs (at new.now k) ≤ 2 ^ 29) }
+    ensures { line.new ≡ tabulate (length line.old) (λ k. faded fade (last - k) (at old.now k) (at new.now k)) }
 {
-    let mut k = 0;
-    while k < count {
-        let place = 127 - k;
-        let x = mean(old[place], new[place], step + k, fade);
-        line[place] = x;
-        k += 1;
+    for (k, point) in line.iter_mut().enumerate() {
+        *point = mean(old[k], new[k], last - k, fade);
     }
 }
 
 // Writes the points of a run whose first point's plan is given, newest first, before place 128: the values of one level, or in a fade the means of two.
-pub(crate) fn planned_points(
-    line: &mut [i64],
-    positions: &[u64],
-    p: Plan,
-    book: &[i32],
-    store: &[i32],
-    layout: Layout,
-    table: &[i16],
-)
-    requires layout_of { LayoutOf book.now store.now p.old layout × LayoutOf book.now store.now p.new layout × RowsOf book.now table.now × (p.old ≤ 4) × (p.new ≤ 4) × (128 ≤ length line.old) × (length positions.now ≤ 128) }
-    requires by_index { ((i k : ℕ) → i ≤ k → k < length positions.now → (get_or positions.now i 0 ≤ get_or positions.now k 0) × (get_or positions.now k 0 ≤ 2 ^ 60)) × ((p.step ≡ 0 → ⊥) → p.step + length positions.now ≤ layout.fade + 1) }
-    ensures { line.new ≡ overwrite line.old (128 - length positions.now) (tabulate (length positions.now) (λ j. point book.now store.now (run_plan p (length positions.now - suc j) (get_or positions.now (length positions.now - suc j) 0)))) }
+pub(crate) fn planned_points(line: &mut [i64], positions: &[u64], p: Plan, source: &Source)
+    requires levels { (p.old ≤ top_level source.now.store.now) × (p.new ≤ top_level source.now.store.now) }
+    requires line_room { 128 ≤ length line.old }
+    requires count { (1 ≤ length positions.now) × (length positions.now ≤ 128) }
+    requires rising { (i k : ℕ) → i ≤ k → k < length positions.now → get_or positions.now i 0 ≤ get_or positions.now k 0 }
+    requires early { (k : ℕ) → k < length positions.now → get_or positions.now k 0 ≤ 2 ^ 60 }
+    requires in_fade { (p.step ≡ 0 → ⊥) → p.step + length positions.now ≤ source.now.layout.fade + 1 }
+    ensures { line.new ≡ overwrite line.old (128 - length positions.now) (tabulate (length positions.now) (λ j.
+        point source.now.book.now source.now.store.now (run_plan p (length positions.now - suc j) (get_or positions.now (length positions.now - suc j) 0)))) }
 {
     if p.step == 0 {
-        values_along(line, positions, book, store, layout, p.old, table);
+        source.values_along(line, positions, p.old);
         return;
     }
     let mut old = [0i64; 128];
     let mut new = [0i64; 128];
-    values_along(&mut old, positions, book, store, layout, p.old, table);
-    values_along(&mut new, positions, book, store, layout, p.new, table);
+    source.values_along(&mut old, positions, p.old);
+    source.values_along(&mut new, positions, p.new);
+    let count = positions.len();
+    let newest = 128 - count;
     fade_values(
-        line,
-        &old,
-        &new,
-        positions.len(),
-        p.step as usize,
-        layout.fade as usize,
+        &mut line[newest..128],
+        &old[newest..],
+        &new[newest..],
+        p.step as usize + count - 1,
+        source.layout.fade as usize,
     );
 }
 
 // The point of a plan.
-pub(crate) fn one_point(p: Plan, book: &[i32], store: &[i32], layout: Layout, table: &[i16]) -> i64
-    requires { LayoutOf book.now store.now p.old layout × LayoutOf book.now store.now p.new layout × RowsOf book.now table.now × (p.old ≤ 4) × (p.new ≤ 4) × (p.step ≤ layout.fade) × (p.position ≤ 2 ^ 60) }
-    ensures { result ≡ point book.now store.now p }
+pub(crate) fn one_point(p: Plan, source: &Source) -> i64
+    requires levels { (p.old ≤ top_level source.now.store.now) × (p.new ≤ top_level source.now.store.now) }
+    requires in_range { (p.step ≤ source.now.layout.fade) × (p.position ≤ 2 ^ 60) }
+    ensures { result ≡ point source.now.book.now source.now.store.now p }
 {
     let mut line = [0i64; 128];
-    let positions = [p.position; 1];
-    planned_points(&mut line, &positions, p, book, store, layout, table);
+    planned_points(&mut line, &[p.position], p, source);
     line[127]
 }

@@ -1,23 +1,24 @@
 -- The laws of a quotient with its rest, and of a glide's place: the sum of two quotients, and the place after one output more. Assumes nothing.
 use mathlib.Core.Path.{◌≡◌, refl, sym, ap, ◌∙◌}
-use Prim.Native.Nat.{ℕ, suc, ◌+◌, ◌*◌, ◌^◌, ◌≤◌, ◌<◌}
+use Prim.Native.Nat.{ℕ, suc, ◌+◌, ◌*◌, ◌/◌, ◌^◌, ◌≤◌, ◌<◌}
 use native.Mathlib.Nat.{le_trans, mul-le-mul_left, add-zero, add-suc}
 use native.Mathlib.Decide.{ℕ_discrete}
 use native.Mathlib.Omega.{arith}
 use borrow.Author.Tests.{eq-eqb, ne_eqb}
-use lib.Dec.{eqb}
+use lib.Dec.{T, eqb}
 use lib.IntN.{ℤ, pos, neg_ℤ, nat_abs, ◌+ℤ◌, ◌-ℤ◌, ◌*ℤ◌}
-use lib.Signed.{◌≤ℤ◌, ◌<ℤ◌}
+use lib.Signed.{non_neg, ◌≤ℤ◌, ◌<ℤ◌}
+use mir.Syntax.{w64}
+use mir.Val.{SFits}
 use lib.Pow.{pow_mono}
 use Rattle.arith.specs.Floor.{floor_div}
 use Rattle.arith.proofs.Linear.{linear}
-use Rattle.arith.proofs.Integers.{≤ℤ-trans, pos-≤ℤ, abs-≤, abs_above, abs_triangle, abs-*-≤, <ℤ-≤ℤ, *ℤ-≤ℤ-pos, *ℤ-<ℤ-cancel}
+use Rattle.arith.proofs.Integers.{≤ℤ-trans, pos-≤ℤ, abs-≤, abs_above, abs_fits, abs_triangle, abs-*-≤, <ℤ-≤ℤ, *ℤ-≤ℤ-pos, *ℤ-<ℤ-cancel}
 use Rattle.arith.proofs.Floor.{floor-≤, floor-<, floor-+}
 use Rattle.control.specs.declared.Glide.{Glide}
 use Rattle.control.specs.declared.Control.{Control}
 use Rattle.control.specs.declared.Fade.{Fade}
 use Rattle.positions.specs.declared.glide.Quotient.{Quotient}
-use Rattle.positions.specs.declared.glide.Rates.{Rates}
 use Rattle.control.specs.Moves.{glide_rate, glide_after, move_glide}
 use Rattle.control.specs.Valid.{GlideValid, Valid}
 use Rattle.positions.specs.Inner.{GlideFits, ControlFits, RatesOf, quotient, glide_sum, left_of, rate_at, glide_at, control_at}
@@ -127,7 +128,7 @@ module _ (c : Control) where
   glide_rate_lem n i = rw (ne_eqb c.glide.count 0 n)
 
   -- R, in 2^-23
-  pub still_rates : c.glide.count ≡ 0 → c.rate < 2 ^ 32 → RatesOf c (record { start = pos (2 ^ 23) *ℤ pos c.rate; slope = pos 0 })
+  pub still_rates : c.glide.count ≡ 0 → c.rate < 2 ^ 32 → RatesOf c (pos (2 ^ 23) *ℤ pos c.rate) (pos 0)
   still_rates z h = record {
     start_size = simp linear (omega arith);
     slope_size = omega arith;
@@ -168,7 +169,7 @@ module _ (c : Control) where
     at-rate : (i : ℕ) → g.done + i ≤ g.count → rate_at c i ≤ 2 ^ 32
     at-rate i l = rw (glide_rate_lem n i) (rate_high g fits (g.done + i) l)
 
-    pub glide_rates : RatesOf c (record { start = pos (2 ^ 23) *ℤ p.floor +ℤ u; slope = S })
+    pub glide_rates : RatesOf c (pos (2 ^ 23) *ℤ p.floor +ℤ u) S
     glide_rates =
         let z : g.done + 0 ≤ g.count = omega (arith, fits.done_high) in
         let o : g.done + 1 ≤ g.count = omega (arith, fits.done_high) in
@@ -180,9 +181,43 @@ module _ (c : Control) where
           high = λ i k l. at_high i k (l n);
         }
 
--- what `rate_at` asks for, of an output of the run
-pub rate_readable : {c : Control} {r : Rates} → RatesOf c r → (i : ℕ) → i ≤ 64 → left_of c.glide i → (nat_abs r.start ≤ 2 ^ 56) × (nat_abs r.slope ≤ 2 ^ 56) × (i ≤ 64) × (pos 0 ≤ℤ (r.start +ℤ r.slope *ℤ pos i))
-rate_readable s i near left = (s.start_size, s.slope_size, near, ≤ℤ-trans (pos-≤ℤ (omega arith)) (s.low i near left))
+-- the numbers of an output of the run
+module _ {c : Control} {a b : ℤ} (r : RatesOf c a b) (i : ℕ) (near : i ≤ 64) (left : left_of c.glide i) where
+  low : (pos (2 ^ 23 * rate_at c i)) ≤ℤ (a +ℤ b *ℤ pos i)
+  low = r.low i near left
+
+  product_size : nat_abs (b *ℤ pos i) ≤ 2 ^ 62
+  product_size = omega (arith, abs-*-≤ b (pos i) {m = 2 ^ 56} {n = 64} r.slope_size near)
+
+  sum_size : nat_abs (a +ℤ b *ℤ pos i) < 2 ^ 63
+  sum_size = omega (arith, abs_triangle a (b *ℤ pos i), product_size, r.start_size)
+
+  pub start_fits : SFits w64 a
+  start_fits = abs_fits w64 a (omega (arith, r.start_size))
+
+  pub slope_fits : SFits w64 b
+  slope_fits = abs_fits w64 b (omega (arith, r.slope_size))
+
+  pub along-fits : SFits w64 (b *ℤ pos i)
+  along-fits = abs_fits w64 (b *ℤ pos i) (omega (arith, product_size))
+
+  pub here_fits : SFits w64 (a +ℤ b *ℤ pos i)
+  here_fits = abs_fits w64 (a +ℤ b *ℤ pos i) sum_size
+
+  pub here_low : T (non_neg (a +ℤ b *ℤ pos i))
+  here_low = simp linear (omega (arith, simp linear at low))
+
+  pub here_size : nat_abs (a +ℤ b *ℤ pos i) < 2 ^ 64
+  here_size = omega (arith, sum_size)
+
+  pub rate_here : nat_abs (a +ℤ b *ℤ pos i) / 2 ^ 23 ≡ rate_at c i
+  rate_here =
+      let R : ℕ = rate_at c i in
+      let v : ℤ = a +ℤ b *ℤ pos i in
+      let high = r.high i near left in
+      let l : 2 ^ 23 * R ≤ nat_abs v = simp linear (omega (arith, simp linear at low)) in
+      let h : nat_abs v < 2 ^ 23 * R + 2 ^ 23 = simp linear (omega (arith, simp linear at low, simp linear at high)) in
+      omega (arith, l, h)
 
 -- ---- the control along a run
 

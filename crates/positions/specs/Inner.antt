@@ -6,7 +6,6 @@ use Rattle.control.specs.declared.Fade.{Fade}
 use Rattle.control.specs.declared.Glide.{Glide}
 use Rattle.control.specs.declared.Plan.{Plan}
 use Rattle.positions.specs.declared.glide.Quotient.{Quotient}
-use Rattle.positions.specs.declared.glide.Rates.{Rates}
 use Rattle.control.specs.Moves.{glide_rate, glide_after}
 
 -- a glide under way whose rates are below 2^32
@@ -40,12 +39,12 @@ rate_at c i = cond (eqb c.glide.count 0) c.rate (glide_rate c.glide (c.glide.don
 unfoldable pub glide_at : Glide → ℕ → Glide
 glide_at g i = cond (eqb g.count 0) g (glide_after g (g.done + i))
 
--- rates in 2^-23 that are those of the next 64 outputs, up to the end of the glide
-pub record RatesOf (c : Control) (r : Rates) : Type 0 where
-  pub start_size : nat_abs r.start ≤ 2 ^ 56
-  pub slope_size : nat_abs r.slope ≤ 2 ^ 56
-  pub low : (i : ℕ) → i ≤ 64 → left_of c.glide i → pos (2 ^ 23 * rate_at c i) ≤ℤ (r.start +ℤ r.slope *ℤ pos i)
-  pub high : (i : ℕ) → i ≤ 64 → left_of c.glide i → (r.start +ℤ r.slope *ℤ pos i) <ℤ pos (2 ^ 23 * rate_at c i + 2 ^ 23)
+-- start + slope × i in 2^-23 is the rate of output i, for each of the next 64 up to the end of the glide
+pub record RatesOf (c : Control) (start slope : ℤ) : Type 0 where
+  pub start_size : nat_abs start ≤ 2 ^ 56
+  pub slope_size : nat_abs slope ≤ 2 ^ 56
+  pub low : (i : ℕ) → i ≤ 64 → left_of c.glide i → pos (2 ^ 23 * rate_at c i) ≤ℤ (start +ℤ slope *ℤ pos i)
+  pub high : (i : ℕ) → i ≤ 64 → left_of c.glide i → (start +ℤ slope *ℤ pos i) <ℤ pos (2 ^ 23 * rate_at c i + 2 ^ 23)
 
 -- a control after i outputs that left the fade f: after none R is as it was, on a glide too
 unfoldable pub control_at : Control → Fade → ℕ → ℕ → Control

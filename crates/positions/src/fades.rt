@@ -18,13 +18,15 @@ pub(crate) fn run_band(p: Plan) -> Band
     if p.step == 0 {
         return band_of(p.old);
     }
+    // above every rate, which is below 2^32
     Band {
         low: 0,
         high: 4294967296,
     }
 }
 
-// How many of `count` outputs have both points in the fade: all where there is none.
+// How many of `count` outputs have both points in the fade: all where there is none. Step and F stay two numbers with their bound beside them, here and
+// below: a step belongs to a voice and F to a book, and a struct of both would be built for each call.
 pub(crate) fn outputs_in(p: Plan, fade: u32, count: usize) -> usize
     requires { (p.step ≤ fade) × (fade ≤ 256) }
     ensures { (result ≤ count) × left_of_fade fade p result }
@@ -32,8 +34,7 @@ pub(crate) fn outputs_in(p: Plan, fade: u32, count: usize) -> usize
     if p.step == 0 {
         return count;
     }
-    let left = ((fade - p.step + 1) / 2) as usize;
-    if left < count { left } else { count }
+    count.min(((fade - p.step + 1) / 2) as usize)
 }
 
 // The fade after i outputs.
@@ -48,10 +49,9 @@ pub(crate) fn fade_at(p: Plan, fade: u32, i: usize) -> Fade
     };
     fade_after(
         Plan {
-            old: p.old,
-            new: p.new,
             step,
             position: 0,
+            ..p
         },
         fade,
     )

@@ -1,8 +1,9 @@
 // Rates along a run of outputs, without a division for each: in 2^-23 of a unit the rates of a glide go up by a fixed slope. A run has at most 64
-// outputs, so that a slope that is rounded up is never above the next rate.
+// outputs, so that a slope that is rounded up is never above the next rate. An output's number i stays a usize with i ≤ 64 in the contracts: it is a loop's
+// number and a slice's length, and a type of its own would be made of it at each call.
 
 ghost use Rattle.std.specs.Prelude.{◌≡◌, ℕ, ◌+◌, ◌*◌, ◌^◌, ◌≤◌, ◌<◌, pos, nat_abs, ◌+ℤ◌, ◌*ℤ◌, ◌≤ℤ◌, ◌<ℤ◌};
-ghost use Rattle.positions.specs.Inner.{GlideFits, ControlFits, RatesOf, quotient, glide_sum, glide_at, left_of};
+ghost use Rattle.positions.specs.Inner.{GlideFits, ControlFits, RatesOf, quotient, glide_sum, rate_at, glide_at, left_of};
 
 use control::moves::glide_after;
 use control::{Control, Glide};
@@ -14,11 +15,14 @@ pub(crate) struct Quotient {
     pub rest: u32,
 }
 
-// Rates in 2^-23: that of output i of a run is the floor of start + slope × i.
+// The rates of a control's next outputs in 2^-23: that of output i is the floor of start + slope × i.
 #[derive(Clone, Copy)]
 pub(crate) struct Rates {
+    pub control: Control,
     pub start: i64,
     pub slope: i64,
+    pub ghost fit: { ControlFits control },
+    pub ghost along: { RatesOf control start slope },
 }
 
 // z / c.
@@ -28,6 +32,7 @@ fn divided(z: i64, c: u32) -> Quotient
 {
     let count = c as i64;
     let floor = arith::floor_div(z, count);
+    // from the floor, since rem_euclid would divide again
     let rest = z - count * floor;
     Quotient {
         floor,
@@ -58,12 +63,13 @@ fn rate_quotient(g: Glide) -> Quotient
 // The rates of the next outputs: along the glide, or R.
 pub(crate) fn rates_of(c: Control) -> Rates
     requires { ControlFits c }
-    ensures { RatesOf c result }
+    ensures { result.control ≡ c }
 {
     let g = c.glide;
     let count = g.count;
     if count == 0 {
         return Rates {
+            control: c,
             start: 8388608 * c.rate as i64,
             slope: 0,
         };
@@ -72,15 +78,16 @@ pub(crate) fn rates_of(c: Control) -> Rates
     let part = scaled(place.rest as i64, count);
     let slope = scaled(g.target as i64 - g.start as i64, count);
     Rates {
+        control: c,
         start: 8388608 * place.floor + part,
         slope,
     }
 }
 
-// The rate of output i of a run.
+// The rate of output i from now.
 pub(crate) fn rate_at(r: Rates, i: usize) -> u64
-    requires { (nat_abs r.start ≤ 2 ^ 56) × (nat_abs r.slope ≤ 2 ^ 56) × (i ≤ 64) × (pos 0 ≤ℤ (r.start +ℤ r.slope *ℤ pos i)) }
-    ensures { (R : ℕ) → (pos (2 ^ 23 * R)) ≤ℤ (r.start +ℤ r.slope *ℤ pos i) → (r.start +ℤ r.slope *ℤ pos i) <ℤ (pos (2 ^ 23 * R + 2 ^ 23)) → result ≡ R }
+    requires { (i ≤ 64) × left_of r.control.glide i }
+    ensures { result ≡ rate_at r.control i }
 {
     (r.start + r.slope * i as i64) as u64 / 8388608
 }
@@ -93,8 +100,7 @@ pub(crate) fn outputs_left(g: Glide, count: usize) -> usize
     if g.count == 0 {
         return count;
     }
-    let left = (g.count - g.done) as usize;
-    if left < count { left } else { count }
+    count.min((g.count - g.done) as usize)
 }
 
 // The glide after i outputs more.

@@ -1,15 +1,14 @@
--- Texts of numbers, in ASCII.
-use Rattle.std.specs.Prelude.{ℕ, List, [], ◌∷◌, ◌++◌, ℤ, flat_map}
-use Rattle.std.specs.Fmt.{signed_decimal}
+-- Texts of numbers, in ASCII, by the text of one.
+use Rattle.std.specs.Prelude.{ℕ, List, [], ◌∷◌, ◌++◌, flat_map}
 
 -- a blank, and then the number
-abbrev pub next_integer : ℤ → List ℕ
-next_integer x = 32 ∷ signed_decimal x
+abbrev pub next_of : {N : Type 0} → (N → List ℕ) → N → List ℕ
+next_of text x = 32 ∷ text x
 
 -- a blank before each number, and the end of the line
-abbrev pub line_of : List ℤ → List ℕ
-line_of xs = flat_map next_integer xs ++ 10 ∷ []
+abbrev pub line_of : {N : Type 0} → (N → List ℕ) → List N → List ℕ
+line_of text xs = flat_map (next_of text) xs ++ 10 ∷ []
 
 -- each number on a line of its own
-abbrev pub lines_of : List ℤ → List ℕ
-lines_of xs = flat_map (λ x. signed_decimal x ++ 10 ∷ []) xs
+abbrev pub lines_of : {N : Type 0} → (N → List ℕ) → List N → List ℕ
+lines_of text xs = flat_map (λ x. text x ++ 10 ∷ []) xs

@@ -1,42 +1,38 @@
-// A drive's calls as numbers: what is called, plus the bits of a rate, a position or a count of outputs; a glide's count is times COUNT.
-// Each is made, and printed with its answer.
+// A drive's calls: each is made, and printed with its answer.
 use crate::lines;
 use crate::rates::rate_of;
 use control::{Card, Order};
-use player::{Answer, Voice};
+use player::{Refused, Voice};
 use std::io;
 use std::io::Write;
 
-pub const JUMP: u64 = 0;
-
-pub const GLIDE: u64 = 1 << 61;
-
-pub const SEEK: u64 = 2 << 61;
-
-pub const PLAY: u64 = 3 << 61;
-
-pub const COUNT: u64 = 1 << 32;
-
-// A number's low 32 bits.
-fn low(x: u64) -> u32 {
-    (x % 4294967296) as u32
+// A call: a jump or a glide to a rate, given by the bits of its f32, a glide's count of outputs, a position, or a play's count.
+#[derive(Clone, Copy)]
+pub enum Call {
+    Jump(u32),
+    Glide(u32, u32),
+    Seek(u64),
+    Play(usize),
 }
 
 // Prints an answer's number and hands on its voice.
-fn answered(out: &mut impl Write, a: Answer) -> io::Result<Voice> {
-    lines::number(out, "number", a.number as u64)?;
-    Ok(a.voice)
+fn answered(out: &mut impl Write, answer: Result<Voice, Refused>) -> io::Result<Voice> {
+    match answer {
+        Ok(voice) => {
+            lines::number(out, "number", 0)?;
+            Ok(voice)
+        }
+        Err(refused) => {
+            lines::number(out, "number", u64::from(refused.refusal.number()))?;
+            Ok(refused.voice)
+        }
+    }
 }
 
 pub fn opened(out: &mut impl Write, bits: u32, top: u32) -> io::Result<Voice> {
     lines::rate(out, "open", bits)?;
-    answered(
-        out,
-        Voice::open(Card {
-            rate: rate_of(bits),
-            top,
-        }),
-    )
+    let rate = rate_of(bits);
+    answered(out, Voice::open(Card { rate, top }))
 }
 
 fn jumped(out: &mut impl Write, v: Voice, bits: u32) -> io::Result<Voice> {
@@ -46,13 +42,8 @@ fn jumped(out: &mut impl Write, v: Voice, bits: u32) -> io::Result<Voice> {
 
 fn gliding(out: &mut impl Write, v: Voice, bits: u32, count: u32) -> io::Result<Voice> {
     lines::glide(out, bits, count)?;
-    answered(
-        out,
-        v.order(Order::Glide {
-            target: rate_of(bits),
-            count,
-        }),
-    )
+    let target = rate_of(bits);
+    answered(out, v.order(Order::Glide { target, count }))
 }
 
 fn sought(out: &mut impl Write, v: Voice, position: u64) -> io::Result<Voice> {
@@ -69,11 +60,14 @@ fn filled(
     block: &mut [i16],
 ) -> io::Result<Voice> {
     lines::number(out, "play", block.len() as u64)?;
-    let a = v.play(book, store, block);
-    lines::number(out, "number", a.number as u64)?;
-    lines::number(out, "multiplies", a.multiplies)?;
+    let (number, voice, multiplies) = match v.play(book, store, block) {
+        Ok(play) => (0, play.voice, play.multiplies),
+        Err(refused) => (refused.refusal.number(), refused.voice, 0),
+    };
+    lines::number(out, "number", u64::from(number))?;
+    lines::number(out, "multiplies", multiplies)?;
     lines::samples(out, "out", block)?;
-    Ok(a.voice)
+    Ok(voice)
 }
 
 // A play of at most 200 outputs, whose words are 77 before it.
@@ -91,43 +85,32 @@ fn played(
     filled(out, v, book, store, &mut room[..count])
 }
 
-// A jump, a glide or a seek.
-fn steered(out: &mut impl Write, v: Voice, call: u64) -> io::Result<Voice> {
-    if call < GLIDE {
-        return jumped(out, v, low(call));
-    }
-    if call < SEEK {
-        return gliding(out, v, low(call), low((call - GLIDE) / COUNT));
-    }
-    sought(out, v, call - SEEK)
-}
-
 fn called(
     out: &mut impl Write,
     v: Voice,
-    call: u64,
+    call: Call,
     book: &[i32],
     store: &[i32],
 ) -> io::Result<Voice> {
-    if call < PLAY {
-        return steered(out, v, call);
+    match call {
+        Call::Jump(bits) => jumped(out, v, bits),
+        Call::Glide(bits, count) => gliding(out, v, bits, count),
+        Call::Seek(position) => sought(out, v, position),
+        Call::Play(count) => played(out, v, book, store, count),
     }
-    played(out, v, book, store, (call - PLAY) as usize)
 }
 
 // All calls, each from the voice that the last one handed back.
 pub fn all(
     out: &mut impl Write,
     voice: Voice,
-    calls: &[u64],
+    calls: &[Call],
     book: &[i32],
     store: &[i32],
 ) -> io::Result<Voice> {
     let mut v = voice;
-    let mut k = 0;
-    while k < calls.len() {
-        v = called(out, v, calls[k], book, store)?;
-        k += 1;
+    for call in calls {
+        v = called(out, v, *call, book, store)?;
     }
     Ok(v)
 }

@@ -1,51 +1,47 @@
 // A drive: a book, samples, a top level, the bits of the opening's rate and calls. Its text has what is given, and what each call hands
 // back.
+use crate::calls::Call;
 use crate::{calls, lines};
+use refusal::number_of;
 use std::io;
 use std::io::Write;
 
-// Prints what is given.
-fn given(
-    out: &mut impl Write,
-    seed: u64,
-    book: &[i32],
-    samples: &[i16],
-    top: u32,
-) -> io::Result<()> {
-    lines::number(out, "drive", seed)?;
-    lines::words(out, "book", book)?;
-    lines::samples(out, "samples", samples)?;
-    lines::number(out, "top", top as u64)
+#[derive(Clone, Copy)]
+pub struct Drive<'a> {
+    // what random numbers it was made from
+    pub seed: u64,
+    pub book: &'a [i32],
+    pub samples: &'a [i16],
+    pub top: u32,
+    // the opening's rate, by the bits of its f32
+    pub rate: u32,
+    pub calls: &'a [Call],
 }
 
-// Builds the store.
-fn built(
-    out: &mut impl Write,
-    book: &[i32],
-    samples: &[i16],
-    top: u32,
-    store: &mut [i32],
-) -> io::Result<()> {
-    lines::number(out, "build", store.len() as u64)?;
-    let number = levels::build(book, samples, top, store);
-    lines::number(out, "number", number as u64)?;
-    lines::words(out, "store", store)
-}
+impl Drive<'_> {
+    // Prints what is given.
+    fn given(&self, out: &mut impl Write) -> io::Result<()> {
+        lines::number(out, "drive", self.seed)?;
+        lines::words(out, "book", self.book)?;
+        lines::samples(out, "samples", self.samples)?;
+        lines::number(out, "top", self.top as u64)
+    }
 
-// Prints a drive. Its store has 126 words, enough for header and levels 0..3 of 64 samples; they are 77 before they are built.
-pub fn text(
-    out: &mut impl Write,
-    seed: u64,
-    book: &[i32],
-    samples: &[i16],
-    top: u32,
-    rate: u32,
-    list: &[u64],
-) -> io::Result<()> {
-    let mut store = [77i32; 126];
-    given(out, seed, book, samples, top)?;
-    built(out, book, samples, top, &mut store)?;
-    let v = calls::opened(out, rate, top)?;
-    let last = calls::all(out, v, list, book, &store)?;
-    lines::voice(out, last)
+    // Builds the store.
+    fn built(&self, out: &mut impl Write, store: &mut [i32]) -> io::Result<()> {
+        lines::number(out, "build", store.len() as u64)?;
+        let built = levels::build(self.book, self.samples, self.top, store);
+        lines::number(out, "number", u64::from(number_of(&built)))?;
+        lines::words(out, "store", store)
+    }
+
+    // Prints it. Its store has 126 words, enough for header and levels 0..3 of 64 samples; they are 77 before they are built.
+    pub fn text(&self, out: &mut impl Write) -> io::Result<()> {
+        let mut store = [77i32; 126];
+        self.given(out)?;
+        self.built(out, &mut store)?;
+        let v = calls::opened(out, self.rate, self.top)?;
+        let last = calls::all(out, v, self.calls, self.book, &store)?;
+        lines::voice(out, last)
+    }
 }

@@ -1,6 +1,6 @@
-// Drive 19505, made by rust/drives.
-use crate::calls::{COUNT, GLIDE, JUMP, PLAY, SEEK};
-use crate::drive;
+// Drive 19505, made by rust/drives: its numbers, handed to the one printer of drives.
+use crate::calls::Call;
+use crate::drive::Drive;
 use std::io;
 use std::io::Write;
 
@@ -15,21 +15,29 @@ const SAMPLES: [i16; 39] = [
     18605, 851, -18431, 13135, -32041, 10615, 5356, 6158, -25126, -4354, 20644, 7194, 9194,
 ];
 
-const CALLS: [u64; 12] = [
-    JUMP + 0x7fc00000,
-    PLAY + 13,
-    PLAY + 32,
-    SEEK + 4471133175,
-    SEEK + 1879048192,
-    GLIDE + 0 * COUNT + 0x3f700000,
-    PLAY + 6,
-    PLAY + 5,
-    SEEK + 9663676416,
-    GLIDE + 2 * COUNT + 0x7f7fffff,
-    SEEK + 1912429252,
-    PLAY + 0,
+const CALLS: [Call; 12] = [
+    Call::Jump(0x7fc00000),
+    Call::Play(13),
+    Call::Play(32),
+    Call::Seek(4471133175),
+    Call::Seek(1879048192),
+    Call::Glide(0x3f700000, 0),
+    Call::Play(6),
+    Call::Play(5),
+    Call::Seek(9663676416),
+    Call::Glide(0x7f7fffff, 2),
+    Call::Seek(1912429252),
+    Call::Play(0),
 ];
 
 pub fn text(out: &mut impl Write) -> io::Result<()> {
-    drive::text(out, 19505, &BOOK, &SAMPLES, 1, 0x4072b5b7, &CALLS)
+    let drive = Drive {
+        seed: 19505,
+        book: &BOOK,
+        samples: &SAMPLES,
+        top: 1,
+        rate: 0x4072b5b7,
+        calls: &CALLS,
+    };
+    drive.text(out)
 }

@@ -1,6 +1,6 @@
-// Drive 2184, made by rust/drives.
-use crate::calls::{COUNT, GLIDE, JUMP, PLAY, SEEK};
-use crate::drive;
+// Drive 2184, made by rust/drives: its numbers, handed to the one printer of drives.
+use crate::calls::Call;
+use crate::drive::Drive;
 use std::io;
 use std::io::Write;
 
@@ -17,21 +17,29 @@ const SAMPLES: [i16; 62] = [
     -30540, 9675, -21784, 17528, -18150, 8189, -9053, 16092, -11360, 786,
 ];
 
-const CALLS: [u64; 12] = [
-    GLIDE + 6 * COUNT + 0x40700000,
-    JUMP + 0x406fffff,
-    PLAY + 8,
-    GLIDE + 3 * COUNT + 0x407fffff,
-    PLAY + 11,
-    SEEK + 10161120886,
-    PLAY + 9,
-    GLIDE + 5 * COUNT + 0x4082b000,
-    SEEK + 8316438043,
-    PLAY + 11,
-    JUMP + 0x40700000,
-    GLIDE + 15 * COUNT + 0x406fffff,
+const CALLS: [Call; 12] = [
+    Call::Glide(0x40700000, 6),
+    Call::Jump(0x406fffff),
+    Call::Play(8),
+    Call::Glide(0x407fffff, 3),
+    Call::Play(11),
+    Call::Seek(10161120886),
+    Call::Play(9),
+    Call::Glide(0x4082b000, 5),
+    Call::Seek(8316438043),
+    Call::Play(11),
+    Call::Jump(0x40700000),
+    Call::Glide(0x406fffff, 15),
 ];
 
 pub fn text(out: &mut impl Write) -> io::Result<()> {
-    drive::text(out, 2184, &BOOK, &SAMPLES, 2, 0x40ffffff, &CALLS)
+    let drive = Drive {
+        seed: 2184,
+        book: &BOOK,
+        samples: &SAMPLES,
+        top: 2,
+        rate: 0x40ffffff,
+        calls: &CALLS,
+    };
+    drive.text(out)
 }

@@ -1,6 +1,6 @@
-// Drive 23, made by rust/drives.
-use crate::calls::{COUNT, GLIDE, JUMP, PLAY, SEEK};
-use crate::drive;
+// Drive 23, made by rust/drives: its numbers, handed to the one printer of drives.
+use crate::calls::Call;
+use crate::drive::Drive;
 use std::io;
 use std::io::Write;
 
@@ -13,21 +13,29 @@ const SAMPLES: [i16; 13] = [
     -7899, 6800, -10799, -14973, 10750, -29927, -6152, -3290, -13552, 7792, 23036, 9093, 24357,
 ];
 
-const CALLS: [u64; 12] = [
-    PLAY + 2,
-    GLIDE + 5 * COUNT + 0x3f6d9168,
-    PLAY + 17,
-    PLAY + 33,
-    GLIDE + 3 * COUNT + 0x3f700000,
-    JUMP + 0x3ec54847,
-    SEEK + 2233423295,
-    PLAY + 0,
-    GLIDE + 9 * COUNT + 0x3fffffff,
-    JUMP + 0x3e2a69ea,
-    PLAY + 17,
-    JUMP + 0x3f700000,
+const CALLS: [Call; 12] = [
+    Call::Play(2),
+    Call::Glide(0x3f6d9168, 5),
+    Call::Play(17),
+    Call::Play(33),
+    Call::Glide(0x3f700000, 3),
+    Call::Jump(0x3ec54847),
+    Call::Seek(2233423295),
+    Call::Play(0),
+    Call::Glide(0x3fffffff, 9),
+    Call::Jump(0x3e2a69ea),
+    Call::Play(17),
+    Call::Jump(0x3f700000),
 ];
 
 pub fn text(out: &mut impl Write) -> io::Result<()> {
-    drive::text(out, 23, &BOOK, &SAMPLES, 0, 0x7f800000, &CALLS)
+    let drive = Drive {
+        seed: 23,
+        book: &BOOK,
+        samples: &SAMPLES,
+        top: 0,
+        rate: 0x7f800000,
+        calls: &CALLS,
+    };
+    drive.text(out)
 }

@@ -1,6 +1,6 @@
-// Drive 33350, made by rust/drives.
-use crate::calls::{COUNT, GLIDE, JUMP, PLAY, SEEK};
-use crate::drive;
+// Drive 33350, made by rust/drives: its numbers, handed to the one printer of drives.
+use crate::calls::Call;
+use crate::drive::Drive;
 use std::io;
 use std::io::Write;
 
@@ -15,21 +15,29 @@ const SAMPLES: [i16; 31] = [
     -25064, -24743, -24422, -24101, -23780, -23459, -23138,
 ];
 
-const CALLS: [u64; 12] = [
-    PLAY + 29,
-    PLAY + 23,
-    JUMP + 0x410c32ee,
-    PLAY + 5,
-    GLIDE + 5 * COUNT + 0x3f6fffff,
-    SEEK + 4812419185,
-    PLAY + 3,
-    SEEK + 3783954592,
-    PLAY + 4,
-    GLIDE + 7 * COUNT + 0x4070b9db,
-    SEEK + 4606733886,
-    PLAY + 3,
+const CALLS: [Call; 12] = [
+    Call::Play(29),
+    Call::Play(23),
+    Call::Jump(0x410c32ee),
+    Call::Play(5),
+    Call::Glide(0x3f6fffff, 5),
+    Call::Seek(4812419185),
+    Call::Play(3),
+    Call::Seek(3783954592),
+    Call::Play(4),
+    Call::Glide(0x4070b9db, 7),
+    Call::Seek(4606733886),
+    Call::Play(3),
 ];
 
 pub fn text(out: &mut impl Write) -> io::Result<()> {
-    drive::text(out, 33350, &BOOK, &SAMPLES, 3, 0x3e173627, &CALLS)
+    let drive = Drive {
+        seed: 33350,
+        book: &BOOK,
+        samples: &SAMPLES,
+        top: 3,
+        rate: 0x3e173627,
+        calls: &CALLS,
+    };
+    drive.text(out)
 }

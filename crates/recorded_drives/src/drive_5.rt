@@ -1,6 +1,6 @@
-// Drive 5, made by rust/drives.
-use crate::calls::{COUNT, GLIDE, JUMP, PLAY, SEEK};
-use crate::drive;
+// Drive 5, made by rust/drives: its numbers, handed to the one printer of drives.
+use crate::calls::Call;
+use crate::drive::Drive;
 use std::io;
 use std::io::Write;
 
@@ -15,21 +15,29 @@ const SAMPLES: [i16; 36] = [
     1234, -2665, -1520, -317, -910, 1465, 2024,
 ];
 
-const CALLS: [u64; 12] = [
-    SEEK + 1615076137561860383,
-    SEEK + 1686965695,
-    PLAY + 29,
-    GLIDE + 3 * COUNT + 0x3e11eda3,
-    PLAY + 1,
-    JUMP + 0x406fffff,
-    SEEK + 5284332143,
-    PLAY + 6,
-    SEEK + 1765537233,
-    PLAY + 2,
-    GLIDE + 3 * COUNT + 0x3d8ec146,
-    PLAY + 8,
+const CALLS: [Call; 12] = [
+    Call::Seek(1615076137561860383),
+    Call::Seek(1686965695),
+    Call::Play(29),
+    Call::Glide(0x3e11eda3, 3),
+    Call::Play(1),
+    Call::Jump(0x406fffff),
+    Call::Seek(5284332143),
+    Call::Play(6),
+    Call::Seek(1765537233),
+    Call::Play(2),
+    Call::Glide(0x3d8ec146, 3),
+    Call::Play(8),
 ];
 
 pub fn text(out: &mut impl Write) -> io::Result<()> {
-    drive::text(out, 5, &BOOK, &SAMPLES, 2, 0x7f7fffff, &CALLS)
+    let drive = Drive {
+        seed: 5,
+        book: &BOOK,
+        samples: &SAMPLES,
+        top: 2,
+        rate: 0x7f7fffff,
+        calls: &CALLS,
+    };
+    drive.text(out)
 }

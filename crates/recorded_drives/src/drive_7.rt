@@ -1,6 +1,6 @@
-// Drive 7, made by rust/drives.
-use crate::calls::{COUNT, GLIDE, JUMP, PLAY, SEEK};
-use crate::drive;
+// Drive 7, made by rust/drives: its numbers, handed to the one printer of drives.
+use crate::calls::Call;
+use crate::drive::Drive;
 use std::io;
 use std::io::Write;
 
@@ -15,21 +15,29 @@ const SAMPLES: [i16; 28] = [
     -32768, -32768,
 ];
 
-const CALLS: [u64; 12] = [
-    GLIDE + 25 * COUNT + 0x3f700000,
-    GLIDE + 18 * COUNT + 0x3f800000,
-    PLAY + 27,
-    PLAY + 29,
-    GLIDE + 32 * COUNT + 0x3f71e000,
-    GLIDE + 29 * COUNT + 0x3f7fffff,
-    SEEK + 2823365193,
-    PLAY + 21,
-    SEEK + 2117670083,
-    PLAY + 2,
-    JUMP + 0x3f700000,
-    GLIDE + 12 * COUNT + 0x3f785000,
+const CALLS: [Call; 12] = [
+    Call::Glide(0x3f700000, 25),
+    Call::Glide(0x3f800000, 18),
+    Call::Play(27),
+    Call::Play(29),
+    Call::Glide(0x3f71e000, 32),
+    Call::Glide(0x3f7fffff, 29),
+    Call::Seek(2823365193),
+    Call::Play(21),
+    Call::Seek(2117670083),
+    Call::Play(2),
+    Call::Jump(0x3f700000),
+    Call::Glide(0x3f785000, 12),
 ];
 
 pub fn text(out: &mut impl Write) -> io::Result<()> {
-    drive::text(out, 7, &BOOK, &SAMPLES, 0, 0x3eaec07e, &CALLS)
+    let drive = Drive {
+        seed: 7,
+        book: &BOOK,
+        samples: &SAMPLES,
+        top: 0,
+        rate: 0x3eaec07e,
+        calls: &CALLS,
+    };
+    drive.text(out)
 }

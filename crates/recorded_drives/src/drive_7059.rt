@@ -1,6 +1,6 @@
-// Drive 7059, made by rust/drives.
-use crate::calls::{JUMP, PLAY, SEEK};
-use crate::drive;
+// Drive 7059, made by rust/drives: its numbers, handed to the one printer of drives.
+use crate::calls::Call;
+use crate::drive::Drive;
 use std::io;
 use std::io::Write;
 
@@ -13,21 +13,29 @@ const SAMPLES: [i16; 37] = [
     2, 2, 0, 1, 2, 1, 1, -1,
 ];
 
-const CALLS: [u64; 12] = [
-    JUMP + 0x40700000,
-    SEEK + 9663676415,
-    SEEK + 10737418240,
-    PLAY + 29,
-    JUMP + 0x41000000,
-    SEEK + 6442450944,
-    PLAY + 11,
-    PLAY + 15,
-    JUMP + 0x3f7fffff,
-    PLAY + 26,
-    SEEK + 1152921504606846976,
-    PLAY + 4,
+const CALLS: [Call; 12] = [
+    Call::Jump(0x40700000),
+    Call::Seek(9663676415),
+    Call::Seek(10737418240),
+    Call::Play(29),
+    Call::Jump(0x41000000),
+    Call::Seek(6442450944),
+    Call::Play(11),
+    Call::Play(15),
+    Call::Jump(0x3f7fffff),
+    Call::Play(26),
+    Call::Seek(1152921504606846976),
+    Call::Play(4),
 ];
 
 pub fn text(out: &mut impl Write) -> io::Result<()> {
-    drive::text(out, 7059, &BOOK, &SAMPLES, 3, 0x40f00000, &CALLS)
+    let drive = Drive {
+        seed: 7059,
+        book: &BOOK,
+        samples: &SAMPLES,
+        top: 3,
+        rate: 0x40f00000,
+        calls: &CALLS,
+    };
+    drive.text(out)
 }

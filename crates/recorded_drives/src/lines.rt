@@ -22,27 +22,24 @@ pub fn glide(out: &mut impl Write, bits: u32, count: u32) -> io::Result<()> {
 // A name and samples.
 pub fn samples(out: &mut impl Write, name: &str, block: &[i16]) -> io::Result<()> {
     write!(out, "{name}")?;
-    print::samples(out, block)
+    print::line(out, block)
 }
 
 // A name and words.
 pub fn words(out: &mut impl Write, name: &str, block: &[i32]) -> io::Result<()> {
     write!(out, "{name}")?;
-    print::integers(out, block)
+    print::line(out, block)
 }
 
 // A field of 32 bits, as the signed word that has its bits.
 fn next_word(out: &mut impl Write, x: u32) -> io::Result<()> {
-    if x < 2147483648 {
-        return print::next_number(out, x);
-    }
-    write!(out, " -{}", 4294967296 - x as u64)
+    print::next(out, x.cast_signed())
 }
 
 // A field of 64 bits as two words, the low one first.
 fn next_pair(out: &mut impl Write, x: u64) -> io::Result<()> {
-    next_word(out, (x % 4294967296) as u32)?;
-    next_word(out, (x / 4294967296) as u32)
+    next_word(out, (x & 0xffffffff) as u32)?;
+    next_word(out, (x >> 32) as u32)
 }
 
 // T, the fade's old and new level and i, R, R0, R1, c, j and P.
@@ -67,5 +64,5 @@ pub fn voice(out: &mut impl Write, v: Voice) -> io::Result<()> {
     let history = v.history;
     write!(out, "voice")?;
     control(out, c)?;
-    print::integers(out, &history)
+    print::line(out, &history)
 }

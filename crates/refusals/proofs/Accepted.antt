@@ -7,8 +7,8 @@ use borrow.Author.Tests.{ltb-false, eqb-false}
 use lib.Dec.{eqb}
 use lib.IntN.{pos}
 use Rattle.arith.proofs.Tests.{||-left, ||-right}
-use Rattle.book.specs.Number.{refuse}
-use Rattle.book.proofs.Numbers.{none_first, none_second, condition_fails, not_refused}
+use Rattle.refusal.specs.Number.{refuse}
+use Rattle.refusal.proofs.Numbers.{none_first, none_second, condition_fails, not_refused}
 use Rattle.store.specs.Sizes.{top_in_range}
 use Rattle.store.proofs.Ranges.{top_high}
 use Rattle.control.specs.declared.Card.{Card}

@@ -10,8 +10,8 @@ use lib.Dec.{ltb, leb, eqb}
 use lib.IntN.{ℤ, nat_abs}
 use Rattle.arith.specs.Lists.{at}
 use Rattle.arith.proofs.Tests.{every-at, every_all, ||-left, ||-right}
-use Rattle.book.specs.Number.{refuse, ◌otherwise◌}
-use Rattle.book.proofs.Numbers.{none_first, none_second, condition_fails, not_refused}
+use Rattle.refusal.specs.Number.{refuse, ◌otherwise◌}
+use Rattle.refusal.proofs.Numbers.{none_first, none_second, condition_fails, not_refused}
 use Rattle.control.specs.declared.Control.{Control}
 use Rattle.control.specs.declared.Order.{Order}
 use Rattle.control.specs.Valid.{GlideValid, Valid}

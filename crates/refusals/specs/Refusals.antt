@@ -2,7 +2,7 @@
 use Rattle.std.specs.Prelude.{Bool, not, ◌&&◌, ◌||◌, List, ℕ, ◌+◌, ◌^◌, ltb, leb, eqb, ℤ, pos, nat_abs}
 use Rattle.arith.specs.Lists.{at}
 use Rattle.arith.specs.Tests.{every}
-use Rattle.book.specs.Number.{refuse, ◌otherwise◌}
+use Rattle.refusal.specs.Number.{refuse, ◌otherwise◌}
 use Rattle.book.specs.Book.{sizes_of}
 use Rattle.book.specs.Check.{book_number}
 use Rattle.store.specs.Sizes.{top_in_range}

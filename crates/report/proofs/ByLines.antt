@@ -18,7 +18,8 @@ use Rattle.drive_text.specs.Inner.{next_scan, is_begun, scanned_line, scan_from,
 use Rattle.drive_text.proofs.Scans.{scanned_line_lem, begun_next}
 use Rattle.report.specs.declared.Drive.{Drive}
 use Rattle.report.specs.declared.Report.{Report}
-use Rattle.report.specs.Printed.{Printed, line_text, lines_text, total_text, plays_of, outputs_of, multiplies_of, sum}
+use Rattle.report.specs.declared.Printed.{Printed}
+use Rattle.report.specs.Printed.{line_text, lines_text, total_text, plays_of, outputs_of, multiplies_of, sum}
 use Rattle.report.specs.Report.{line_report, lines_report}
 use Rattle.report.specs.Inner.{largest32, largest64, Step, Limited, tallied, drive_line, end_line, read_byte, read_bytes, last_line, end_text}
 use Rattle.report.proofs.HandedOut.{sum-+}

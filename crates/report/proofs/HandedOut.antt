@@ -11,15 +11,15 @@ use lib.IntN.{ℤ, pos}
 use lib.ListN.{length, replicate, length-append}
 use Rattle.control.specs.declared.Order.TheVariants.{Jump as JumpTo, Glide as GlideTo}
 use Rattle.player.specs.declared.Voice.{Voice}
-use Rattle.player.specs.declared.Answer.{Answer}
-use Rattle.player.specs.Calls.{order_answer, seek_answer, play_answer}
+use Rattle.player.specs.Calls.{Answer, order_answer, seek_answer, play_answer}
 use Rattle.player.specs.Outputs.{outputs}
 use Rattle.drive.specs.Lists.{Call, order, seek, play, call_number, call_voice, call_samples, handed_out, end_voice}
 use Rattle.drive.proofs.Players.{refused_call}
 use Rattle.drive_text.specs.declared.Line.{Line}
 use Rattle.drive_text.specs.declared.Line.TheVariants.{Jump, Glide, Seek, Play, Other}
 use Rattle.drive_text.specs.Calls.{line_of}
-use Rattle.report.specs.Printed.{Printed, plays_of, outputs_of, sum}
+use Rattle.report.specs.declared.Printed.{Printed}
+use Rattle.report.specs.Printed.{plays_of, outputs_of, sum}
 use Rattle.report.specs.Report.{rate, Reported, after_answer, after_play, line_report, lines_report}
 use Rattle.report.specs.Whole.{calls_of, all_calls, OutputsHandedOut}
 

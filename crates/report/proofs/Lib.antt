@@ -1,5 +1,4 @@
 -- What the proofs here cite, and the theorems.
-pub mod Appended
 pub mod Plays
 pub mod Limits
 pub mod Limited

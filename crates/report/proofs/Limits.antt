@@ -11,8 +11,8 @@ use lib.Ieee.Positive.{above_of_le, le→cross}
 use lib.IntN.{pos}
 use lib.Pow.{pow_mono}
 use borrow.Author.Tests.{le-ltb, lt-ltb, ne_eqb}
-use Rattle.book.specs.Number.{refuse, ◌otherwise◌}
-use Rattle.book.proofs.Numbers.{none_second}
+use Rattle.refusal.specs.Number.{refuse, ◌otherwise◌}
+use Rattle.refusal.proofs.Numbers.{none_second}
 use Rattle.control.specs.declared.Order.{Order}
 use Rattle.control.specs.declared.Order.TheVariants.{Jump as JumpTo, Glide as GlideTo}
 use Rattle.control.specs.Rate.{rate_in_range}

@@ -1,23 +1,20 @@
 -- What a play answers depends on the count of its words, and it hands out as many. Assumes nothing.
-use mathlib.Core.Path.{◌≡◌, refl, ap}
+use mathlib.Core.Path.{◌≡◌, refl, sym, ap, ◌∙◌}
 use mathlib.Core.Bool.{Bool, true, false, cond}
-use mathlib.Core.List.{List, ◌∷◌}
-use Prim.Native.Nat.{ℕ, zero, suc, ◌≤◌}
-use native.Mathlib.Omega.{arith}
+use mathlib.Core.List.{List}
+use Prim.Native.Nat.{ℕ}
 use lib.Dec.{eqb}
-use lib.IntN.{ℤ, pos}
-use lib.ListN.{length, take, replicate}
+use lib.IntN.{ℤ}
+use lib.ListN.{length}
+use Rattle.std.specs.Prelude.{Result, Ok, Err}
 use Rattle.player.specs.declared.Voice.{Voice}
-use Rattle.player.specs.Calls.{play_answer}
+use Rattle.player.specs.declared.Play.{Play}
+use Rattle.player.specs.declared.Refused.{Refused}
+use Rattle.player.specs.Calls.{played_of, play_answer}
 use Rattle.player.specs.Outputs.{outputs}
 use Rattle.player.proofs.Blocks.{length-outputs}
 use Rattle.report.specs.Report.{after_play}
-use Rattle.report.specs.Inner.{count_answer, with_words}
-
-pub take_zeros : (n m : ℕ) → n ≤ m → take n (replicate m (pos 0)) ≡ replicate n (pos 0)
-take_zeros zero m h = refl
-take_zeros (suc n) zero h = absurd (omega arith)
-take_zeros (suc n) (suc m) h = ap (λ l. pos 0 ∷ l) (take_zeros n m (omega arith))
+use Rattle.report.specs.Inner.{silent}
 
 module _ (b store : List ℤ) (v : Voice) where
   -- as many words as it was lent
@@ -29,7 +26,19 @@ module _ (b store : List ℤ) (v : Voice) where
       go true = length-outputs b store v (length words)
       go false = refl
 
+  own_words : (r : Result Play Refused) (words : List ℤ) → (played_of r words).words ≡ words
+  own_words (Ok p) words = refl
+  own_words (Err f) words = refl
+
+  -- of the words only the count is looked at
+  by_length : (r : Result Play Refused) (plays : ℕ) (xs ys : List ℤ) → length xs ≡ length ys → after_play v plays (played_of r xs) ≡ after_play v plays (played_of r ys)
+  unfolding after_play
+  by_length (Ok p) plays xs ys e = rw e refl
+  by_length (Err f) plays xs ys e = rw e refl
+
   -- a play by its answer and a count
-  pub by_count : (plays count : ℕ) → after_play v plays (with_words (count_answer b store v count) count) ≡ after_play v plays (play_answer b store v (replicate count (pos 0)))
-  unfolding count_answer after_play
-  by_count plays count = rw (words_length (replicate count (pos 0))) refl
+  pub by_count : (r : Result Play Refused) (plays count : ℕ) (words : List ℤ) → played_of r words ≡ play_answer b store v (silent count)
+      → after_play v plays (played_of r (silent count)) ≡ after_play v plays (play_answer b store v (silent count))
+  by_count r plays count words e =
+      let n : length (silent count) ≡ length words = sym (ap length (sym (own_words r words) ∙ ap (λ p. p.words) e) ∙ words_length (silent count)) in
+      by_length r plays _ _ n ∙ ap (after_play v plays) e

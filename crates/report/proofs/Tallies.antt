@@ -12,8 +12,7 @@ use borrow.Author.Tests.{eqb-true}
 use Rattle.book.specs.Book.{sizes_of}
 use Rattle.book.proofs.Accepted.{accepted, sizes_bounded}
 use Rattle.player.specs.declared.Voice.{Voice}
-use Rattle.player.specs.declared.Answer.{Answer}
-use Rattle.player.specs.Calls.{Played, order_answer, seek_answer, play_answer}
+use Rattle.player.specs.Calls.{Answer, Played, order_answer, seek_answer, play_answer}
 use Rattle.player.proofs.Accepted.{play_accepted}
 use Rattle.player.proofs.Counted.{play_bounded}
 use Rattle.control.specs.declared.Order.TheVariants.{Jump as JumpTo, Glide as GlideTo}
@@ -21,7 +20,9 @@ use Rattle.drive_text.specs.declared.Line.{Line}
 use Rattle.drive_text.specs.declared.Line.TheVariants.{Jump, Glide, Seek, Play, Other}
 use Rattle.drive_text.specs.Inner.{number_cap, kept}
 use Rattle.report.specs.declared.Drive.{Drive}
-use Rattle.report.specs.Printed.{Printed, refused, played, plays_of, outputs_of, multiplies_of, sum}
+use Rattle.report.specs.declared.Printed.{Printed}
+use Rattle.report.specs.declared.Printed.TheVariants.{Refused as refused, Played as played}
+use Rattle.report.specs.Printed.{plays_of, outputs_of, multiplies_of, sum}
 use Rattle.report.specs.Report.{rate, Reported, reported, passed_over, after_answer, after_play, line_report}
 use Rattle.report.specs.Inner.{largest32, largest64, Limited, counted}
 use Rattle.report.proofs.Plays.{words_length}

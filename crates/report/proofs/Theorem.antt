@@ -17,7 +17,8 @@ use Rattle.drive_text.specs.declared.Scan.TheVariants.{Fresh}
 use Rattle.drive_text.specs.Lines.{Parts, line_end, split, lines_from, lines_of, input_limit, input_lines}
 use Rattle.drive_text.specs.Inner.{next_scan}
 use Rattle.report.specs.declared.Report.{Report}
-use Rattle.report.specs.Printed.{Printed, total_word, lines_text, total_text, outputs_of, multiplies_of, sum}
+use Rattle.report.specs.declared.Printed.{Printed}
+use Rattle.report.specs.Printed.{total_word, lines_text, total_text, outputs_of, multiplies_of, sum}
 use Rattle.report.specs.Report.{lines_report, report, drive_report}
 use Rattle.report.specs.Inner.{Step, piece_limit, fresh_drive, fresh_report, end_line, read_byte, read_bytes, read_piece, end_text}
 use Rattle.report.specs.Whole.{joined, Short, read_pieces, all_text, PiecesReport}

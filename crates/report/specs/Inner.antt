@@ -1,20 +1,21 @@
 -- Definitions that only inner functions' contracts cite: no rule of document 02, but a step of the code that computes one. Bytes are read one
 -- after another; totals are kept in 64 bits, and the count of plays in 32. `Totals` (proofs) says that no input reaches these.
-use Rattle.std.specs.Prelude.{cond, List, [], ◌∷◌, ◌++◌, ◌≡◌, ℕ, ◌+◌, ◌-◌, ◌^◌, ◌≤◌, min, eqb, ℤ, pos, length, take, replicate}
+use Rattle.std.specs.Prelude.{cond, Option, List, [], ◌∷◌, ◌++◌, ◌≡◌, ℕ, ◌+◌, ◌-◌, ◌^◌, ◌≤◌, min, eqb, ℤ, pos, length, take, replicate}
+use Rattle.std.specs.Option.{option_to_list}
+use Rattle.arrayvec.specs.ArrayString.{ArrayString, array_string_len}
 use Rattle.player.specs.declared.Voice.{Voice}
-use Rattle.player.specs.declared.PlayAnswer.{PlayAnswer}
-use Rattle.player.specs.Calls.{Played, play_answer}
 use Rattle.drive_text.specs.declared.Line.{Line}
 use Rattle.drive_text.specs.declared.Line.TheVariants.{Jump, Glide, Seek, Play, Other}
 use Rattle.drive_text.specs.declared.Scan.TheVariants.{Fresh}
 use Rattle.drive_text.specs.Lines.{line_end, input_limit}
 use Rattle.drive_text.specs.Calls.{output_limit}
 use Rattle.drive_text.specs.Inner.{next_scan, is_begun, scanned_line}
+use Rattle.report.specs.declared.TheConstants.{TEXT_BYTES}
 use Rattle.report.specs.declared.Drive.{Drive}
-use Rattle.report.specs.declared.Told.{Told}
 use Rattle.report.specs.declared.Report.{Report}
-use Rattle.report.specs.declared.Piece.{Piece}
-use Rattle.report.specs.Printed.{Printed, refused, played, lines_text, total_text}
+use Rattle.report.specs.declared.Printed.{Printed}
+use Rattle.report.specs.declared.Printed.TheVariants.{Refused as refused, Played as played}
+use Rattle.report.specs.Printed.{lines_text, total_text}
 use Rattle.report.specs.Report.{Reported, line_report}
 
 -- the largest number of 32 bits, and of 64
@@ -46,19 +47,14 @@ counted d (played number outputs multiplies level ∷ lines) =
 unfoldable pub tallied : Drive → Reported → Drive
 tallied d r = let t = counted d r.printed in record { voice = r.voice; plays = t.plays; outputs = t.outputs; multiplies = t.multiplies }
 
--- what a line hands back: the drive after what it reported, and where its text ends, which stands behind the first `at` bytes
-abbrev pub Tells : Drive → Reported → ℕ → List ℕ → Told → List ℕ → Type 0
-Tells d r at before l after = (l.drive ≡ tallied d r) × (take l.end after ≡ take at before ++ lines_text r.printed) × (l.end ≤ at + 96)
+-- what a line leaves: the drive after what it reported, and the line that it prints, if it prints one
+pub record Tells (d : Drive) (r : Reported) (told : Drive × Option Printed) : Type 0 where
+  pub drive : told.0 ≡ tallied d r
+  pub printed : option_to_list told.1 ≡ r.printed
 
--- what a play of so many outputs answers
-unfoldable pub count_answer : List ℤ → List ℤ → Voice → ℕ → PlayAnswer
-count_answer b store v count =
-    let p = play_answer b store v (replicate count (pos 0)) in
-    record { number = p.number; voice = p.voice; multiplies = p.multiplies }
-
--- such an answer with as many words; only their count is looked at
-abbrev pub with_words : PlayAnswer → ℕ → Played
-with_words a count = record { number = a.number; voice = a.voice; multiplies = a.multiplies; words = replicate count (pos 0) }
+-- so many words of a play; only their count is looked at
+abbrev pub silent : ℕ → List ℤ
+silent count = replicate count (pos 0)
 
 -- a line that the language has: n is up to 4096
 abbrev pub Limited : Line → Type 0
@@ -81,16 +77,20 @@ pub record Step : Type 0 where
   pub report : Report
   pub text : List ℕ
 
--- what a piece hands back, with its text at the front of a slice
-abbrev pub step_of : Piece → List ℕ → Step
-step_of p text = record { report = p.report; text = take p.count text }
+abbrev pub step_of : Report → List ℕ → Step
+step_of r text = record { report = r; text = text }
 
 abbrev pub behind : List ℕ → Step → Step
 behind text s = record { report = s.report; text = text ++ s.text }
 
--- the first n bytes of a slice lie in it, and are n
-abbrev pub IsPrefixLen : ℕ → List ℕ → Type 0
-IsPrefixLen n xs = (n ≤ length xs) × (n ≡ length (take n xs))
+-- room for one more line. Each function that writes one says this of the text that it is lent, and no type does: a text has it before some calls only
+abbrev pub HasRoom : ArrayString → Type 0
+HasRoom text = array_string_len text + 96 ≤ TEXT_BYTES
+
+-- what some bytes leave: the report after a step, and its text, of at most so many bytes, written behind what stood there
+pub record Prints (s : Step) (most : ℕ) (before : List ℕ) (report : Report) (after : List ℕ) : Type 0 where
+  pub step : step_of report after ≡ behind before s
+  pub short : length after ≤ length before + most
 
 module _ (b store : List ℤ) where
   -- what a line prints after a drive

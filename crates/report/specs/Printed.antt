@@ -2,11 +2,8 @@
 use Rattle.std.specs.Prelude.{List, [], ◌∷◌, ◌++◌, ℕ, ◌+◌}
 use Rattle.drive_text.specs.Lines.{line_end, blank}
 use Rattle.text.specs.Decimal.{decimal}
-
--- "refused", or an accepted play: its number from 1, outputs, multiplies and the current level at the end
-pub data Printed : Type 0 where
-  refused : Printed
-  played : (number outputs multiplies level : ℕ) → Printed
+use Rattle.report.specs.declared.Printed.{Printed}
+use Rattle.report.specs.declared.Printed.TheVariants.{Refused as refused, Played as played}
 
 -- "refused"
 abbrev pub refused_word : List ℕ

@@ -2,14 +2,15 @@
 use Rattle.std.specs.Prelude.{cond, List, [], ◌∷◌, ◌++◌, ℕ, ◌+◌, eqb, Float, ℤ, pos, length, replicate}
 use Rattle.control.specs.declared.Order.TheVariants.{Jump as JumpTo, Glide as GlideTo}
 use Rattle.player.specs.declared.Voice.{Voice}
-use Rattle.player.specs.declared.Answer.{Answer}
-use Rattle.player.specs.Calls.{Played, order_answer, seek_answer, play_answer}
+use Rattle.player.specs.Calls.{Answer, Played, order_answer, seek_answer, play_answer}
 use Rattle.test_setting.specs.Setting.{fraction, test_setting}
 use Rattle.drive_text.specs.declared.Line.{Line}
 use Rattle.drive_text.specs.declared.Line.TheVariants.{Jump, Glide, Seek, Play, Other}
 use Rattle.drive_text.specs.Lines.{input_lines}
 use Rattle.drive_text.specs.Calls.{line_of}
-use Rattle.report.specs.Printed.{Printed, refused, played, lines_text, total_text, plays_of, outputs_of, multiplies_of, sum}
+use Rattle.report.specs.declared.Printed.{Printed}
+use Rattle.report.specs.declared.Printed.TheVariants.{Refused as refused, Played as played}
+use Rattle.report.specs.Printed.{lines_text, total_text, plays_of, outputs_of, multiplies_of, sum}
 
 -- rate a/256
 abbrev pub rate : ℕ → Float

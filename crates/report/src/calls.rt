@@ -1,17 +1,16 @@
-// A line of the drive: its call is made, and what it prints is written behind the first `at` bytes of a text.
+// A line of the drive: its call is made, and what it prints is handed back.
 
-ghost use Rattle.std.specs.Prelude.{◌≡◌, ◌+◌, ◌≤◌, min, length};
+ghost use Rattle.std.specs.Prelude.{◌≡◌, ◌≤◌, min};
 ghost use Rattle.control.specs.declared.Order.TheVariants.{Glide as GlideTo};
-ghost use Rattle.player.specs.Calls.{order_answer, seek_answer};
-ghost use Rattle.drive_text.specs.declared.Line.TheVariants.{Play};
-ghost use Rattle.report.specs.Report.{rate as Report·rate, passed_over, after_answer, after_play};
-ghost use Rattle.report.specs.Inner.{largest32, largest64, fresh_drive, Tells, Limited, count_answer, with_words, drive_line};
+ghost use Rattle.player.specs.Calls.{answer_of, played_of};
+ghost use Rattle.drive_text.specs.declared.Line.TheVariants.{Play as PlayOf};
+ghost use Rattle.report.specs.Report.{rate as Report·rate, after_answer, after_play};
+ghost use Rattle.report.specs.Inner.{fresh_drive, Tells, Limited, silent, drive_line};
 
-use crate::lines::{played_line, refused_line};
-use crate::{Drive, Told};
+use crate::{Drive, Lent, Printed};
 use control::Order;
-use drive_text::{Line, least};
-use player::{Answer, PlayAnswer, Voice};
+use drive_text::Line;
+use player::{Play, Refused, Voice};
 
 // Past every rate for T up to 4: 32 × 256.
 const RATE_CAP: u64 = 8192;
@@ -23,49 +22,22 @@ const COUNT_CAP: u64 = 65537;
 fn rate(a: u64) -> f32
     ensures { result ≡ Report·rate (min a 8192) }
 {
-    least(a, RATE_CAP) as f32 * 0.00390625
+    a.min(RATE_CAP) as f32 * 0.00390625
 }
 
 // A glide to a/256 over `count` outputs, each up to where no call takes it.
 fn glide(a: u64, count: u64) -> Order
     ensures { result ≡ GlideTo (Report·rate (min a 8192)) (min count 65537) }
 {
-    let target = rate(a);
     Order::Glide {
-        target,
-        count: least(count, COUNT_CAP) as u32,
+        target: rate(a),
+        count: count.min(COUNT_CAP) as u32,
     }
-}
-
-// A total with one more count, kept in 64 bits.
-fn kept_sum(total: u64, more: u64) -> u64
-    ensures { result ≡ min (total + more) largest64 }
-{
-    if more < 18446744073709551615 - total {
-        total + more
-    } else {
-        18446744073709551615
-    }
-}
-
-// A count in 64 bits, kept in 32.
-fn kept_count(n: u64) -> u32
-    ensures { result ≡ min n largest32 }
-{
-    least(n, 4294967295) as u32
-}
-
-// Plays so many outputs, which nobody hears.
-fn play_outputs(voice: Voice, book: &[i32], store: &[i32], count: usize) -> PlayAnswer
-    requires { count ≤ 4096 }
-    ensures { result ≡ count_answer book.now store.now voice count }
-{
-    let mut samples = [0i16; 4096];
-    voice.play(book, store, &mut samples[..count])
 }
 
 impl Drive {
     // Nothing played yet.
+    #[tactic(auto, unfolding(crate::specs::Inner::fresh_drive))]
     pub fn fresh(voice: Voice) -> Drive
         ensures { result ≡ fresh_drive voice }
     {
@@ -77,99 +49,64 @@ impl Drive {
         }
     }
 
-    // Passes a line over.
-    fn pass_over(self, text: &mut [u8], at: usize) -> Told
-        requires { at + 96 ≤ length text.old }
-        ensures { Tells self (passed_over self.voice) at text.old result text.new }
+    // After the answer of an order or a seek: a refused one is passed over.
+    #[tactic(auto, unfolding(crate::specs::Report::after_answer, crate::specs::Inner::tallied, crate::specs::Inner::counted))]
+    fn after_answer(self, answer: Result<Voice, Refused>) -> (Drive, Option<Printed>)
+        ensures { Tells self (after_answer self.voice (answer_of answer)) result }
     {
-        let end = refused_line(text, at);
-        Told { drive: self, end }
-    }
-
-    // After the answer of an order or a seek.
-    fn after_answer(self, answer: Answer, text: &mut [u8], at: usize) -> Told
-        requires { at + 96 ≤ length text.old }
-        ensures { Tells self (after_answer self.voice answer) at text.old result text.new }
-    {
-        if answer.number == 0 {
-            let voice = answer.voice;
-            let drive = Drive {
-                voice,
-                plays: self.plays,
-                outputs: self.outputs,
-                multiplies: self.multiplies,
-            };
-            return Told { drive, end: at };
+        match answer {
+            Ok(voice) => (Drive { voice, ..self }, None),
+            Err(_) => (self, Some(Printed::Refused)),
         }
-        self.pass_over(text, at)
     }
 
     // After a play of `count` outputs.
-    #[tactic(auto, unfolding(crate::specs::Report::after_play))]
-    fn after_play(self, answer: PlayAnswer, count: usize, text: &mut [u8], at: usize) -> Told
-        requires { at + 96 ≤ length text.old }
-        ensures { Tells self (after_play self.voice self.plays (with_words answer count)) at text.old result text.new }
+    #[tactic(auto, unfolding(crate::specs::Report::after_play, crate::specs::Inner::tallied, crate::specs::Inner::counted))]
+    fn after_play(self, answer: Result<Play, Refused>, count: usize) -> (Drive, Option<Printed>)
+        ensures { Tells self (after_play self.voice self.plays (played_of answer (silent count))) result }
     {
-        if answer.number != 0 {
-            return self.pass_over(text, at);
-        }
-        let number = self.plays as u64 + 1;
-        let voice = answer.voice;
-        let control = voice.control;
-        let level = control.fade.from as u64;
-        let outputs = count as u64;
-        let end = played_line(text, at, number, outputs, answer.multiplies, level);
-        let drive = Drive {
-            voice,
-            plays: kept_count(number),
-            outputs: kept_sum(self.outputs, outputs),
-            multiplies: kept_sum(self.multiplies, answer.multiplies),
+        let Ok(play) = answer else {
+            return (self, Some(Printed::Refused));
         };
-        Told { drive, end }
+        let played = Printed::Played {
+            number: u64::from(self.plays) + 1,
+            outputs: count as u64,
+            multiplies: play.multiplies,
+            level: u64::from(play.voice.control.fade.from),
+        };
+        let drive = Drive {
+            voice: play.voice,
+            plays: self.plays.saturating_add(1),
+            outputs: self.outputs.saturating_add(count as u64),
+            multiplies: self.multiplies.saturating_add(play.multiplies),
+        };
+        (drive, Some(played))
     }
 
-    // Plays so many outputs.
-    fn play(self, count: usize, book: &[i32], store: &[i32], text: &mut [u8], at: usize) -> Told
-        requires at_in_bounds { at + 96 ≤ length text.old }
-        requires count_bound { count ≤ 4096 }
-        ensures { Tells self (drive_line book.now store.now self (Play count)) at text.old result text.new }
+    // Plays so many outputs, which nobody hears.
+    fn play(self, count: usize, lent: Lent) -> (Drive, Option<Printed>)
+        requires { count ≤ 4096 }
+        ensures { Tells self (drive_line lent.entry.book.now lent.entry.store.now self (PlayOf count)) result }
     {
-        let voice = self.voice;
-        let answer = play_outputs(voice, book, store, count);
-        self.after_play(answer, count, text, at)
+        let mut samples = [0i16; 4096];
+        let answer = self
+            .voice
+            .play(lent.book, lent.store, &mut samples[..count]);
+        self.after_play(answer, count)
     }
 
-    // Orders, and seeks.
-    fn order(self, order: Order, text: &mut [u8], at: usize) -> Told
-        requires { at + 96 ≤ length text.old }
-        ensures { Tells self (after_answer self.voice (order_answer self.voice order)) at text.old result text.new }
-    {
-        let voice = self.voice;
-        let answer = voice.order(order);
-        self.after_answer(answer, text, at)
-    }
-
-    fn seek(self, position: u64, text: &mut [u8], at: usize) -> Told
-        requires { at + 96 ≤ length text.old }
-        ensures { Tells self (after_answer self.voice (seek_answer self.voice position)) at text.old result text.new }
-    {
-        let voice = self.voice;
-        let answer = voice.seek(position);
-        self.after_answer(answer, text, at)
-    }
-
-    // Makes the call of a line.
-    pub fn line(self, asked: Line, book: &[i32], store: &[i32], text: &mut [u8], at: usize) -> Told
-        requires at_in_bounds { at + 96 ≤ length text.old }
-        requires limited { Limited asked }
-        ensures { Tells self (drive_line book.now store.now self asked) at text.old result text.new }
+    // Makes the call of a line, and hands back what it prints.
+    #[tactic(auto, unfolding(crate::specs::Inner::drive_line, crate::specs::Report::line_report, crate::specs::Inner::tallied, crate::specs::Inner::counted))]
+    pub fn line(self, asked: Line, lent: Lent) -> (Drive, Option<Printed>)
+        requires { Limited asked }
+        ensures { Tells self (drive_line lent.entry.book.now lent.entry.store.now self asked) result }
     {
         match asked {
-            Line::Jump(a) => self.order(Order::Jump(rate(a)), text, at),
-            Line::Glide { rate: a, count } => self.order(glide(a, count), text, at),
-            Line::Seek(position) => self.seek(position, text, at),
-            Line::Play(count) => self.play(count as usize, book, store, text, at),
-            Line::Other => self.pass_over(text, at),
+            Line::Jump(a) => self.after_answer(self.voice.order(Order::Jump(rate(a)))),
+            Line::Glide { rate, count } => self.after_answer(self.voice.order(glide(rate, count))),
+            Line::Seek(position) => self.after_answer(self.voice.seek(position)),
+            Line::Play(count) => self.play(count as usize, lent),
+            Line::Other => (self, Some(Printed::Refused)),
         }
     }
 }

@@ -3,6 +3,7 @@
 
 #![tactic(auto)]
 
+use arrayvec::ArrayString;
 use drive_text::Scan;
 use player::Voice;
 
@@ -10,10 +11,35 @@ mod calls; // a line of the drive
 mod lines; // the lines that are printed
 mod pieces; // the bytes of the input
 
-// The bytes of a piece, and the room that its text needs: 96 for each, since each may end a line.
-pub const PIECE_BYTES: u64 = 4096;
+// Input past its first so many bytes is not read.
+pub const INPUT_BYTES: u32 = 1 << 20;
 
-pub const TEXT_BYTES: usize = 393216;
+// The bytes of a piece, and the room that its text needs: 96 for each, since each may end a line.
+pub const PIECE_BYTES: usize = 4096;
+
+pub const TEXT_BYTES: usize = 96 * PIECE_BYTES;
+
+// What a piece prints.
+pub type Text = ArrayString<TEXT_BYTES>;
+
+// What a drive is played on.
+#[derive(Clone, Copy)]
+pub struct Lent<'a> {
+    pub book: &'a [i32],
+    pub store: &'a [i32],
+}
+
+// A line that is printed: "refused", or an accepted play: its number from 1, outputs, multiplies and the current level at the end.
+#[derive(Clone, Copy)]
+pub enum Printed {
+    Refused,
+    Played {
+        number: u64,
+        outputs: u64,
+        multiplies: u64,
+        level: u64,
+    },
+}
 
 // What was played so far.
 #[derive(Clone, Copy)]
@@ -24,24 +50,10 @@ pub struct Drive {
     pub multiplies: u64,
 }
 
-// A drive after a line, and where its text ends.
-#[derive(Clone, Copy)]
-pub struct Told {
-    pub drive: Drive,
-    pub end: usize,
-}
-
 // A report under way: the bytes of the input that are left to read, the line that was begun, and what was played.
 #[derive(Clone, Copy)]
 pub struct Report {
     pub left: u32,
     pub scan: Scan,
     pub drive: Drive,
-}
-
-// A report after a piece of the input, and the count of bytes to print.
-#[derive(Clone, Copy)]
-pub struct Piece {
-    pub report: Report,
-    pub count: usize,
 }

@@ -1,41 +1,58 @@
-// The lines that are printed, each written behind the first `at` bytes of a text.
+// The lines that are printed, each written behind what a text has. A `write!` would leave open when it fails.
 
-ghost use Rattle.std.specs.Prelude.{◌≡◌, ◌++◌, ◌+◌, ◌≤◌, length, take};
-ghost use Rattle.report.specs.Printed.{refused, played, line_text, total_text};
+ghost use Rattle.std.specs.Prelude.{◌≡◌, ◌++◌, ◌+◌, ◌≤◌};
+ghost use Rattle.std.specs.Option.{option_to_list};
+ghost use Rattle.arrayvec.specs.ArrayString.{array_string_len};
+ghost use Rattle.report.specs.Printed.{line_text, lines_text, total_text};
+ghost use Rattle.report.specs.Inner.{HasRoom};
 
-use text::{append, append_decimal, append_next};
+use crate::{Printed, Text};
+use text::{append_decimal, append_next};
 
-pub fn refused_line(text: &mut [u8], at: usize) -> usize
-    requires { at + 96 ≤ length text.old }
-    ensures { (take result text.new ≡ take at text.old ++ line_text refused) × (result ≤ at + 96) }
-{
-    append(text, at, b"refused\n")
+impl Printed {
+    #[tactic(auto, unfolding(crate::specs::Printed::line_text))]
+    fn append_to(self, text: &mut Text)
+        requires { HasRoom text.old }
+        ensures line { text.new.bytes ≡ text.old.bytes ++ line_text self }
+        ensures short { array_string_len text.new ≤ array_string_len text.old + 96 }
+    {
+        match self {
+            Printed::Refused => text.push_str("refused"),
+            Printed::Played {
+                number,
+                outputs,
+                multiplies,
+                level,
+            } => {
+                append_decimal(text, number);
+                append_next(text, outputs);
+                append_next(text, multiplies);
+                append_next(text, level);
+            }
+        }
+        text.push_str("\n");
+    }
 }
 
-pub fn played_line(
-    text: &mut [u8],
-    at: usize,
-    number: u64,
-    outputs: u64,
-    multiplies: u64,
-    level: u64,
-) -> usize
-    requires { at + 96 ≤ length text.old }
-    ensures { (take result text.new ≡ take at text.old ++ line_text (played number outputs multiplies level)) × (result ≤ at + 96) }
+// Writes a line, if there is one.
+#[tactic(auto, unfolding(crate::specs::Printed::lines_text))]
+pub fn append_line(text: &mut Text, printed: Option<Printed>)
+    requires { HasRoom text.old }
+    ensures line { text.new.bytes ≡ text.old.bytes ++ lines_text (option_to_list printed) }
+    ensures short { array_string_len text.new ≤ array_string_len text.old + 96 }
 {
-    let after_number = append_decimal(text, at, number);
-    let after_outputs = append_next(text, after_number, outputs);
-    let after_multiplies = append_next(text, after_outputs, multiplies);
-    let after_level = append_next(text, after_multiplies, level);
-    append(text, after_level, b"\n")
+    if let Some(line) = printed {
+        line.append_to(text);
+    }
 }
 
-pub fn total_line(text: &mut [u8], at: usize, outputs: u64, multiplies: u64) -> usize
-    requires { at + 96 ≤ length text.old }
-    ensures { (take result text.new ≡ take at text.old ++ total_text outputs multiplies) × (result ≤ at + 96) }
+#[tactic(auto, unfolding(crate::specs::Printed::total_text))]
+pub fn append_total(text: &mut Text, outputs: u64, multiplies: u64)
+    requires { HasRoom text.old }
+    ensures { text.new.bytes ≡ text.old.bytes ++ total_text outputs multiplies }
 {
-    let after_word = append(text, at, b"total");
-    let after_outputs = append_next(text, after_word, outputs);
-    let after_multiplies = append_next(text, after_outputs, multiplies);
-    append(text, after_multiplies, b"\n")
+    text.push_str("total");
+    append_next(text, outputs);
+    append_next(text, multiplies);
+    text.push_str("\n");
 }

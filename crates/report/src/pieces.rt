@@ -1,132 +1,104 @@
 // The bytes of the input: lines may be cut anywhere between two pieces.
 
-ghost use Rattle.std.specs.Prelude.{◌≡◌, ◌+◌, ◌*◌, ◌≤◌, length, take};
-ghost use Rattle.report.specs.Inner.{IsPrefixLen, step_of, behind, fresh_report, end_line, read_byte, read_bytes, read_piece, last_line, end_text};
+ghost use Rattle.std.specs.Prelude.{◌≡◌, ◌+◌, ◌*◌, ◌≤◌, length};
+ghost use Rattle.arrayvec.specs.ArrayString.{array_string_len};
+ghost use Rattle.report.specs.declared.TheConstants.{TEXT_BYTES};
+ghost use Rattle.report.specs.Inner.{HasRoom, Prints, step_of, fresh_report, end_line, read_byte, read_bytes, read_piece, last_line, end_text};
 
-use crate::lines::total_line;
-use crate::{Drive, PIECE_BYTES, Piece, Report, TEXT_BYTES};
-use drive_text::{Scan, least};
+use crate::lines::{append_line, append_total};
+use crate::{Drive, INPUT_BYTES, Lent, PIECE_BYTES, Report, Text};
+use drive_text::Scan;
 use player::Voice;
 
 impl Report {
     // Before the first byte of the input.
+    #[tactic(auto, unfolding(crate::specs::Inner::fresh_report))]
     pub fn fresh(voice: Voice) -> Report
         ensures { result ≡ fresh_report voice }
     {
-        let drive = Drive::fresh(voice);
         Report {
-            left: 1048576,
+            left: INPUT_BYTES,
             scan: Scan::Fresh,
-            drive,
+            drive: Drive::fresh(voice),
         }
     }
 
-    // Ends a line. What it prints stands behind the first `at` bytes of `text`.
-    fn end_line(self, book: &[i32], store: &[i32], text: &mut [u8], at: usize) -> Piece
-        requires { at + 96 ≤ length text.old }
-        ensures { (step_of result text.new ≡ behind (take at text.old) (end_line book.now store.now self))
-            × (result.count ≤ at + 96) }
+    // Ends a line, and prints behind what `text` has.
+    #[tactic(auto, unfolding(crate::specs::Inner::end_line))]
+    fn end_line(self, lent: Lent, text: &mut Text) -> Report
+        requires { HasRoom text.old }
+        ensures { Prints (end_line lent.entry.book.now lent.entry.store.now self) 96 text.old.bytes result text.new.bytes }
     {
-        let scan = self.scan;
-        let drive = self.drive;
-        let line = drive.line(scan.line(), book, store, text, at);
-        let after = line.drive;
-        let report = Report {
-            left: self.left,
+        let (drive, printed) = self.drive.line(self.scan.line(), lent);
+        append_line(text, printed);
+        Report {
             scan: Scan::Fresh,
-            drive: after,
-        };
-        Piece {
-            report,
-            count: line.end,
+            drive,
+            ..self
         }
     }
 
     // Reads a byte, in the same way.
-    fn read_byte(self, byte: u8, book: &[i32], store: &[i32], text: &mut [u8], at: usize) -> Piece
-        requires { at + 96 ≤ length text.old }
-        ensures { (step_of result text.new ≡ behind (take at text.old) (read_byte book.now store.now self byte))
-            × (result.count ≤ at + 96) }
+    #[tactic(auto, unfolding(crate::specs::Inner::read_byte))]
+    fn read_byte(self, byte: u8, lent: Lent, text: &mut Text) -> Report
+        requires { HasRoom text.old }
+        ensures { Prints (read_byte lent.entry.book.now lent.entry.store.now self byte) 96 text.old.bytes result text.new.bytes }
     {
-        if byte == 10 {
-            return self.end_line(book, store, text, at);
+        if byte == b'\n' {
+            return self.end_line(lent, text);
         }
-        let scan = self.scan;
-        let drive = self.drive;
-        let report = Report {
-            left: self.left,
-            scan: scan.next(byte),
-            drive,
-        };
-        Piece { report, count: at }
+        Report {
+            scan: self.scan.next(byte),
+            ..self
+        }
     }
 
-    // Reads some bytes. What they print stands at the front of `text`.
-    fn read_bytes(self, bytes: &[u8], book: &[i32], store: &[i32], text: &mut [u8]) -> Piece
-        requires { 96 * length bytes.now ≤ length text.old }
-        ensures { (step_of result text.new ≡ read_bytes book.now store.now self bytes.now)
-            × (result.count ≤ length text.old) }
+    // Reads some bytes.
+    fn read_bytes(self, bytes: &[u8], lent: Lent, text: &mut Text) -> Report
+        requires { array_string_len text.old + 96 * length bytes.now ≤ TEXT_BYTES }
+        ensures { Prints (read_bytes lent.entry.book.now lent.entry.store.now self bytes.now) (96 * length bytes.now) text.old.bytes result text.new.bytes }
     {
         let mut report = self;
-        let mut at = 0;
-        let mut i = 0;
-        while i < bytes.len() {
-            let step = report.read_byte(bytes[i], book, store, text, at);
-            report = step.report;
-            at = step.count;
-            i += 1;
+        for &byte in bytes {
+            report = report.read_byte(byte, lent, text);
         }
-        Piece { report, count: at }
+        report
     }
 
-    // Reads a piece of at most PIECE_BYTES bytes, up to the input's limit. What it prints stands at the front of `text`.
-    pub fn read(
-        self,
-        piece: &[u8],
-        book: &[i32],
-        store: &[i32],
-        text: &mut [u8; TEXT_BYTES],
-    ) -> Piece
-        ensures text_after { step_of result text.new ≡ read_piece book.now store.now self piece.now }
-        ensures prefix_len { IsPrefixLen result.count text.new }
+    // Reads a piece of at most PIECE_BYTES bytes, up to the input's limit. `text` is then what it prints.
+    #[tactic(auto, unfolding(crate::specs::Inner::read_piece))]
+    pub fn read(self, piece: &[u8], lent: Lent, text: &mut Text) -> Report
+        ensures { step_of result text.new.bytes ≡ read_piece lent.entry.book.now lent.entry.store.now self piece.now }
     {
-        let left = self.left as u64;
-        let count = least(least(piece.len() as u64, PIECE_BYTES), left);
-        let after = (left - count) as u32;
-        let scan = self.scan;
-        let drive = self.drive;
+        text.clear();
+        let count = piece.len().min(PIECE_BYTES).min(self.left as usize);
         let report = Report {
-            left: after,
-            scan,
-            drive,
+            left: self.left - count as u32,
+            ..self
         };
-        let n = count as usize;
-        report.read_bytes(&piece[..n], book, store, text)
+        report.read_bytes(&piece[..count], lent, text)
     }
 
     // The last line, which may lack its line end.
-    fn last_line(self, book: &[i32], store: &[i32], text: &mut [u8]) -> Piece
-        requires { 96 ≤ length text.old }
-        ensures { (step_of result text.new ≡ last_line book.now store.now self) × (result.count ≤ 96) }
+    #[tactic(auto, unfolding(crate::specs::Inner::last_line))]
+    fn last_line(self, lent: Lent, text: &mut Text) -> Report
+        requires { HasRoom text.old }
+        ensures { Prints (last_line lent.entry.book.now lent.entry.store.now self) 96 text.old.bytes result text.new.bytes }
     {
-        let scan = self.scan;
-        if scan.is_begun() {
-            return self.end_line(book, store, text, 0);
+        if self.scan.is_begun() {
+            return self.end_line(lent, text);
         }
-        Piece {
-            report: self,
-            count: 0,
-        }
+        self
     }
 
-    // Ends the report. What is left to print stands at the front of `text`; hands back its length.
-    pub fn end(self, book: &[i32], store: &[i32], text: &mut [u8; TEXT_BYTES]) -> usize
-        ensures text_after { take result text.new ≡ end_text book.now store.now self }
-        ensures prefix_len { IsPrefixLen result text.new }
+    // Ends the report. `text` is then what is left to print.
+    #[tactic(auto, unfolding(crate::specs::Inner::end_text))]
+    pub fn end(self, lent: Lent, text: &mut Text)
+        ensures { text.new.bytes ≡ end_text lent.entry.book.now lent.entry.store.now self }
     {
-        let last = self.last_line(book, store, text);
-        let report = last.report;
-        let drive = report.drive;
-        total_line(text, last.count, drive.outputs, drive.multiplies)
+        text.clear();
+        let last = self.last_line(lent, text);
+        let drive = last.drive;
+        append_total(text, drive.outputs, drive.multiplies);
     }
 }

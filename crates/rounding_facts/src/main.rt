@@ -33,9 +33,9 @@ const STEP: u64 = 134217728;
 fn level(out: &mut impl Write) -> io::Result<()> {
     let samples = [1i16, 0, 3, 0, 5, 0, -1, 0, -3, 0, -5];
     let mut store = [0i32; 21];
-    levels::build(&HALVED, &samples, 1, &mut store);
+    let _ = levels::build(&HALVED, &samples, 1, &mut store);
     write!(out, "level")?;
-    print::integers(out, &store[15..])
+    print::line(out, &store[15..])
 }
 
 // A store of 302 samples with top level 1: its words are w, the last one of level 0 is `last`.
@@ -51,22 +51,30 @@ fn store_of(w: i32, last: i32) -> [i32; 457] {
 
 // A voice at rate 1 with top level 1, at a position.
 fn at(position: u64) -> Voice {
-    let v = Voice::open(Card { rate: 1.0, top: 1 }).voice;
-    v.seek(position).voice
+    let opened = Voice::open(Card { rate: 1.0, top: 1 });
+    let v = opened.unwrap_or_else(|refused| refused.voice);
+    v.seek(position).unwrap_or(v)
+}
+
+// The voice after a play.
+fn after(v: Voice, book: &[i32], store: &[i32], out: &mut [i16]) -> Voice {
+    match v.play(book, store, out) {
+        Ok(played) => played.voice,
+        Err(refused) => refused.voice,
+    }
 }
 
 // The newest point after a play.
 fn newest(v: Voice, book: &[i32], store: &[i32], out: &mut [i16]) -> i32 {
-    let w = v.play(book, store, out).voice;
-    w.history[0]
+    after(v, book, store, out).history[0]
 }
 
 // The first point of a fade to level 1, behind which the output has one more.
 fn first_of_fade(position: u64, book: &[i32], store: &[i32]) -> i32 {
     let mut out = [0i16; 1];
-    let v = at(position).order(Order::Jump(2.0)).voice;
-    let w = v.play(book, store, &mut out).voice;
-    w.history[1]
+    let v = at(position);
+    let jumped = v.order(Order::Jump(2.0)).unwrap_or(v);
+    after(jumped, book, store, &mut out).history[1]
 }
 
 // The value just behind word 300 in a play of one output.
@@ -119,7 +127,7 @@ fn even_store(w: i32) -> [i32; 16] {
 
 // The first of two points of a fade: a half of the old level's value.
 fn faded(out: &mut impl Write, w: i32) -> io::Result<()> {
-    print::next_integer(out, first_of_fade(WORD_2, &FADED, &even_store(w)))
+    print::next(out, first_of_fade(WORD_2, &FADED, &even_store(w)))
 }
 
 fn fades(out: &mut impl Write) -> io::Result<()> {
@@ -136,9 +144,9 @@ fn fades(out: &mut impl Write) -> io::Result<()> {
 // An output of a word that stands for a sample / 256.
 fn output(out: &mut impl Write, w: i32) -> io::Result<()> {
     let mut samples = [0i16; 1];
-    at(WORD_2).play(&K, &even_store(w), &mut samples);
+    let _ = at(WORD_2).play(&K, &even_store(w), &mut samples);
     write!(out, "output {w}")?;
-    print::samples(out, &samples)
+    print::line(out, &samples)
 }
 
 fn outputs(out: &mut impl Write) -> io::Result<()> {

@@ -1,7 +1,7 @@
 -- The rows of a book: what each write leaves, how wide they are, and what an accepted book's rows add up to. Assumes nothing.
 use mathlib.Core.Path.{◌≡◌, refl, sym, ap, subst, ◌∙◌}
 use mathlib.Core.Bool.{Bool, true, false, cond}
-use mathlib.Core.List.{List}
+use mathlib.Core.List.{List, ◌++◌}
 use mathlib.Core.Logic.{◌⊎◌, inl, inr}
 use Prim.Native.Nat.{ℕ, suc, ◌+◌, ◌-◌, ◌*◌, ◌/◌, ◌%◌, ◌≤◌, ◌<◌}
 use native.Mathlib.Nat.{mul-le-mul_right}
@@ -10,10 +10,12 @@ use native.Mathlib.Omega.{arith}
 use borrow.Author.Tests.{leb-true, lt-ltb, le-ltb}
 use lib.Dec.{leb}
 use lib.IntN.{ℤ, pos, negsuc, nat_abs}
-use lib.ListN.{length, set, length-set}
-use lib.Seq.{get_or-set_same, get_or-set_other}
+use lib.ListN.{length, take, drop, length-append, length-drop}
+use lib.Seq.{length-take-le, get_or-take, get_or-drop}
+use Rattle.std.proofs.lemmas.List.{get_or-append_right, get_or_append_left}
 use Rattle.arith.specs.Limit.{limit}
-use Rattle.arith.specs.Lists.{at}
+use Rattle.arith.specs.Lists.{at, part}
+use Rattle.arith.proofs.Lists.{part_length}
 use Rattle.arith.specs.Sum.{total}
 use Rattle.arith.specs.Tests.{within}
 use Rattle.arith.proofs.Limit.{limit-same}
@@ -24,26 +26,40 @@ use Rattle.book.specs.Check.{words_in_range, coefficients_in_range, phase_sum}
 use Rattle.book.proofs.Accepted.{Accepted, sizes_bounded, phase_sum_bound}
 use Rattle.book.proofs.Bounds.{row_below}
 use Rattle.book.proofs.Parts.{impulse_stored, impulse_past, impulse_end}
-use Rattle.rows.specs.Rows.{row_width, narrowed, source_word, row_word, Positive, PutAt, PhasesOf, RowsOf}
+use Rattle.rows.specs.Rows.{row_width, narrowed, source_word, row_word, PutAt, PhasesOf, RowsOf}
 
--- ---- a row, written word by word
+-- ---- a part of a table that was lent, and came back as a row
 
-pub put_none : (row : List ℤ) (a : ℕ) (table : List ℤ) → PutAt row a 0 table table
-put_none row a table = record { word = λ k h. absurd (omega arith); before = λ j h. refl; behind = λ j h. refl }
+module _ (table row : List ℤ) (a k n : ℕ) (many : k ≡ n) (room : a + n ≤ length table) (long : length row ≡ length (part table a k)) where
+  abbrev behind : List ℤ
+  behind = drop k (drop a table)
 
-pub put_more : {row : List ℤ} {a k : ℕ} {table₀ table : List ℤ} → PutAt row a k table₀ table → a + k < length table → (v : ℤ) → v ≡ at row k → PutAt row a (k + 1) table₀ (set table (a + k) v)
-put_more {row} {a} {k} {table₀} {table} p room v e = record {
-  word = λ j h. new j h (ℕ_discrete j k);
-  before = λ j h. other j (λ d. omega arith) ∙ p.before j h;
-  behind = λ j h. other j (λ d. omega arith) ∙ p.behind j (omega arith);
-}
+  row_length : length row ≡ n
+  row_length = long ∙ part_length table a k (omega arith) ∙ many
+
+  front : length (take a table) ≡ a
+  front = length-take-le a table (omega arith)
+
+  pub lent_length : length (take a table ++ (row ++ behind)) ≡ length table
+  lent_length = simp (length-append, length-drop) (omega (arith, row_length, front))
+
+  pub put_lent : PutAt row a n table (take a table ++ (row ++ behind))
+  put_lent = record {
+    word = λ i h. let e : a + i - a ≡ i = omega arith in
+        get_or-append_right (take a table) (row ++ behind) a (a + i) (pos 0) front (omega arith) ∙ ap (at (row ++ behind)) e ∙ get_or_append_left row behind (pos 0) i (omega (arith, row_length));
+    before = λ j h. get_or_append_left (take a table) (row ++ behind) (pos 0) j (omega (arith, front)) ∙ get_or-take a table j (pos 0) h;
+    behind = λ j h. let e : a + (k + (j - a - n)) ≡ j = omega arith in
+        get_or-append_right (take a table) (row ++ behind) a j (pos 0) front (omega arith) ∙ get_or-append_right row behind n (j - a) (pos 0) row_length (omega arith)
+        ∙ get_or-drop k (drop a table) (j - a - n) (pos 0) ∙ get_or-drop a table (k + (j - a - n)) (pos 0) ∙ ap (at table) e;
+  }
+
+-- the same where only the first n words of it were written
+pub put_front : {table row : List ℤ} {a m n : ℕ} {table₁ : List ℤ} → PutAt row a m table table₁ → n ≤ m → ((k : ℕ) → n ≤ k → k < m → at row k ≡ at table (a + k)) → PutAt row a n table table₁
+put_front {table} {row} {a} {m} {n} {table₁} p h same = record { word = λ k l. p.word k (omega arith); before = p.before; behind = λ j l. go j l (dec_lt j (a + m)) }
   where
-    other : (j : ℕ) → (j ≡ a + k → ⊥) → at (set table (a + k) v) j ≡ at table j
-    other j n = get_or-set_other table (a + k) j v (pos 0) n
-
-    new : (j : ℕ) → j < k + 1 → Dec (j ≡ k) → at (set table (a + k) v) (a + j) ≡ at row j
-    new j h (yes d) = rw d (get_or-set_same table (a + k) v (pos 0) room ∙ e)
-    new j h (no n) = other (a + j) (λ d. n (omega arith)) ∙ p.word j (omega arith)
+    go : (j : ℕ) → a + n ≤ j → Dec (j < a + m) → at table₁ j ≡ at table j
+    go j l (no d) = p.behind j (omega arith)
+    go j l (yes d) = let e : a + (j - a) ≡ j = omega arith in subst (λ i. at table₁ i ≡ at table i) e (p.word (j - a) (omega arith) ∙ same (j - a) (omega arith) (omega arith))
 
 -- ---- the rows of the phases below q
 
@@ -168,20 +184,18 @@ module _ (b : List ℤ) (a : Accepted b) where
         go (yes l) = source_word_tap (narrowed b) N q k l ∙ narrow_same (q * N + k) (row_below h l) ∙ sym (impulse_stored b q k h) ∙ sym (row_word_tap l)
         go (no n) = let l : N ≤ k = omega arith in source_word_rest (narrowed b) N q k l ∙ sym (row_word_rest l)
 
-  -- what the rows are, and that 0 stands behind them
+  -- what the rows are
   pub record Whole (table : List ℤ) : Type 0 where
-    pub room : (M + 1) * W < length table
+    pub room : (M + 1) * W ≤ length table
     pub word : (q k : ℕ) → q ≤ M → k < W → at table (q * W + k) ≡ row_word b q k
-    pub rest : at table (length table - 1) ≡ pos 0
 
   -- behind the phases' rows comes that of phase 0, from its second impulse on
   pub rows_whole : {row table table₁ : List ℤ} → PhasesOf (narrowed b) N W M table → ((k : ℕ) → k < N - 1 → at row k ≡ narrowed b (suc k)) → PutAt row (M * W) (N - 1) table table₁
-      → (M + 1) * W < length table₁ → Whole table₁
+      → (M + 1) * W ≤ length table₁ → Whole table₁
   unfolding impulse_word
   rows_whole {row} {table} {table₁} p words put room = record {
     room = room;
     word = λ q k h l. at_row q k h l (dec_lt q M) (dec_lt (suc k) N);
-    rest = let n = length table₁ - 1 in put.behind n (omega (arith, wide)) ∙ p.rest n (omega arith);
   }
     where
       at_row : (q k : ℕ) → q ≤ M → k < W → Dec (q < M) → Dec (suc k < N) → at table₁ (q * W + k) ≡ row_word b q k
@@ -199,29 +213,9 @@ module _ (b : List ℤ) (a : Accepted b) where
           last k h (yes l) = row_word_tap M k l ∙ impulse_end b k h
           last k h (no n) = row_word_rest M k (omega arith)
 
-  -- ---- their mark
-
-  pub rows_unmarked : {table : List ℤ} → Whole table → RowsOf b table
-  rows_unmarked w = record { room = w.room; word = w.word; positive = λ m q h. nothing (sym w.rest ∙ m) }
-    where
-      nothing : {P : Type 0} → pos 0 ≡ pos 1 → P
-      nothing e = absurd (omega (arith, ap nat_abs e))
-
-  pub rows_marked : (table : List ℤ) → Whole table → ((q : ℕ) → q < M + 1 → Positive table (q * W) W) → RowsOf b (set table (length table - 1) (pos 1))
-  rows_marked table w positive = record {
-    room = rw length-set w.room;
-    word = λ q k h l. same q k h l ∙ w.word q k h l;
-    positive = λ m q h. let p = positive q (omega arith) in record { place = p.place; inside = p.inside; above = rw (same q p.place h p.inside) p.above };
-  }
-    where
-      same : (q k : ℕ) → q ≤ M → k < W → at (set table (length table - 1) (pos 1)) (q * W + k) ≡ at table (q * W + k)
-      same q k h l =
-          let in_rows : q * W + k < (M + 1) * W = row_below (omega arith) l in
-          get_or-set_other table (length table - 1) (q * W + k) (pos 1) (pos 0) (λ e. omega (arith, in_rows, w.room))
-
   -- ---- what they add up to
 
-  module _ {table : List ℤ} (r : RowsOf b table) (q : ℕ) (h : q ≤ M) where
+  module _ {table : List ℤ} {positive : Bool} (r : RowsOf b table positive) (q : ℕ) (h : q ≤ M) where
     pub row_tap : (k : ℕ) → k < N → at table (q * W + k) ≡ impulse b q k
     row_tap k l = r.word q k h (omega (arith, wide)) ∙ row_word_tap q k l
 

@@ -1,5 +1,5 @@
 -- A book's impulses in rows of 16-bit words: no rule of document 01, but a step of the code that computes one.
-use Rattle.std.specs.Prelude.{cond, List, ◌≡◌, ℕ, ◌+◌, ◌-◌, ◌*◌, ◌≤◌, ◌<◌, leb, ltb, ℤ, pos, negsuc, length, ◌≤ℤ◌}
+use Rattle.std.specs.Prelude.{Bool, true, cond, List, ◌≡◌, ℕ, ◌+◌, ◌*◌, ◌≤◌, ◌<◌, leb, ltb, ℤ, pos, negsuc, length, ◌≤ℤ◌}
 use Rattle.arith.specs.Limit.{limit}
 use Rattle.arith.specs.Lists.{at}
 use Rattle.book.specs.Book.{sizes_of, impulse}
@@ -29,6 +29,7 @@ pub record PutAt (row : List ℤ) (a n : ℕ) (table₀ table : List ℤ) : Type
 -- a book has M phases of N words, and a table of zeros has room for M rows of W
 pub record PhasesFit (b : List ℤ) (N W M : ℕ) (table : List ℤ) : Type 0 where
   pub few : N ≤ 24
+  pub phases_few : M ≤ 128
   pub wide : N ≤ W
   pub book_room : 5 + M * N ≤ length b
   pub table_room : M * W ≤ length table
@@ -45,12 +46,8 @@ pub record Positive (table : List ℤ) (r W : ℕ) : Type 0 where
   pub inside : place < W
   pub above : pos 1 ≤ℤ at table (r + place)
 
--- the last word of a table says so of all its rows
-abbrev pub Marked : List ℤ → Type 0
-Marked table = at table (length table - 1) ≡ pos 1
-
--- the rows of a book, one behind another, for q = 0 .. M, and a word more
-pub record RowsOf (b table : List ℤ) : Type 0 where
-  pub room : ((sizes_of b).phases + 1) * row_width (sizes_of b).taps < length table
+-- the rows of a book, one behind another, for q = 0 .. M; if `positive` is true, each of them is known to have a positive coefficient
+pub record RowsOf (b table : List ℤ) (positive : Bool) : Type 0 where
+  pub room : ((sizes_of b).phases + 1) * row_width (sizes_of b).taps ≤ length table
   pub word : (q k : ℕ) → q ≤ (sizes_of b).phases → k < row_width (sizes_of b).taps → at table (q * row_width (sizes_of b).taps + k) ≡ row_word b q k
-  pub positive : Marked table → (q : ℕ) → q ≤ (sizes_of b).phases → Positive table (q * row_width (sizes_of b).taps) (row_width (sizes_of b).taps)
+  pub each : positive ≡ true → (q : ℕ) → q ≤ (sizes_of b).phases → ∥ Positive table (q * row_width (sizes_of b).taps) (row_width (sizes_of b).taps) ∥₁

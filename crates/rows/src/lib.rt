@@ -8,7 +8,7 @@ ghost use Rattle.arith.specs.Limit.{limit};
 ghost use Rattle.arith.specs.Lists.{at};
 ghost use Rattle.book.specs.Book.{sizes_of};
 ghost use Rattle.book.specs.Check.{book_number};
-ghost use Rattle.rows.specs.Rows.{row_width, narrowed, Positive, PutAt, PhasesFit, PhasesOf, RowsOf};
+ghost use Rattle.rows.specs.Rows.{row_width, narrowed, Positive, PhasesFit, PhasesOf, RowsOf};
 
 use arith::narrow;
 
@@ -25,104 +25,74 @@ pub fn row_width(taps: usize) -> usize
     32
 }
 
-// `taps` words from place `from` on, narrowed. They are read before any is written: a write could change the book for all that the compiler knows.
-fn row_of(book: &[i32], from: usize, taps: usize) -> [i16; 24]
-    requires { (taps ≤ 24) × (from + taps ≤ length book.now) }
-    ensures { (k : ℕ) → k < taps → at result k ≡ limit (negsuc 32767) (pos 32767) (at book.now (from + k)) }
+// The first N words, narrowed. They are read before any is written: a write could change the book for all that the compiler knows.
+fn row_of<const N: usize>(words: &[i32]) -> [i16; N]
+    requires { N ≤ length words.now }
+    ensures { (k : ℕ) → k < N → at result k ≡ limit (negsuc 32767) (pos 32767) (at words.now k) }
 {
-    let mut row = [0i16; 24];
-    let mut k = 0;
-    while k < taps {
-        row[k] = narrow(book[from + k]);
-        k += 1;
+    let mut row = [0i16; N];
+    for k in 0..N {
+        row[k] = narrow(words[k]);
     }
     row
 }
 
-// Writes the first `taps` words of a row from place `to` on.
-fn put_row(table: &mut [i16], to: usize, row: [i16; 24], taps: usize)
-    requires { (taps ≤ 24) × (to + taps ≤ length table.old) }
-    ensures { PutAt row to taps table.old table.new }
+// The rows of the phases. N and W are constants, so that the loops over a row are unrolled: a fifth of the time.
+fn rows_by<const N: usize, const W: usize>(table: &mut [i16], book: &[i32], phases: usize)
+    requires { PhasesFit book.now N W phases table.old }
+    ensures { PhasesOf (narrowed book.now) N W phases table.new }
 {
-    let mut k = 0;
-    while k < taps {
-        table[to + k] = row[k];
-        k += 1;
+    for q in 0..phases {
+        let row: [i16; N] = row_of(&book[5 + q * N..]);
+        table[q * W..q * W + N].copy_from_slice(&row);
     }
-}
-
-// The rows of the phases.
-fn rows_by(table: &mut [i16], book: &[i32], phases: usize, taps: usize, width: usize)
-    requires { PhasesFit book.now taps width phases table.old }
-    ensures { PhasesOf (narrowed book.now) taps width phases table.new }
-{
-    let mut q = 0;
-    while q < phases {
-        let row = row_of(book, 5 + q * taps, taps);
-        put_row(table, q * width, row, taps);
-        q += 1;
-    }
-}
-
-// Four words from place `from` on.
-fn four_of(words: &[i16], from: usize) -> [i16; 24]
-    requires { from + 4 ≤ length words.now }
-    ensures { (k : ℕ) → k < 4 → at result k ≡ at words.now (from + k) }
-{
-    let mut row = [0i16; 24];
-    let mut k = 0;
-    while k < 4 {
-        row[k] = words[from + k];
-        k += 1;
-    }
-    row
 }
 
 // Rows of four words that lie one behind another.
 fn spread(table: &mut [i16], words: &[i16], phases: usize)
-    requires { (phases * 4 ≤ length words.now) × (phases * 8 ≤ length table.old) × (phases ≤ 128) × ((j : ℕ) → at table.old j ≡ pos 0) }
+    requires room { (phases * 4 ≤ length words.now) × (phases * 8 ≤ length table.old) }
+    requires zeros { (j : ℕ) → at table.old j ≡ pos 0 }
     ensures { PhasesOf (at words.now) 4 8 phases table.new }
 {
-    let mut q = 0;
-    while q < phases {
-        let row = four_of(words, q * 4);
-        put_row(table, q * 8, row, 4);
-        q += 1;
+    for q in 0..phases {
+        table[q * 8..q * 8 + 4].copy_from_slice(&words[q * 4..q * 4 + 4]);
     }
 }
 
 // The rows of phases of four taps. The compiler narrows eight words at once, and four one by one: so two phases are narrowed as one of eight taps first.
 fn rows_of_four(table: &mut [i16], book: &[i32], phases: usize)
-    requires { (phases ≤ 128) × PhasesFit book.now 4 8 phases table.old }
+    requires { PhasesFit book.now 4 8 phases table.old }
     ensures { PhasesOf (narrowed book.now) 4 8 phases table.new }
 {
     if phases % 2 != 0 {
-        rows_by(table, book, phases, 4, 8);
+        rows_by::<4, 8>(table, book, phases);
         return;
     }
     let mut words = [0i16; 512];
-    rows_by(&mut words, book, phases / 2, 8, 8);
+    rows_by::<8, 8>(&mut words, book, phases / 2);
     spread(table, &words, phases);
 }
 
-// The rows of the phases by constants for taps and width, so that the loops over a row are unrolled: a fifth of the time.
+// The rows of the phases of a book. Here its taps become a constant, and so does the width of their rows, which is none that is computed: so there is an arm
+// for each.
 fn phase_rows(table: &mut [i16], book: &[i32], phases: usize, taps: usize, width: usize)
-    requires { (2 ≤ taps) × (taps % 2 ≡ 0) × (width ≡ row_width taps) × PhasesFit book.now taps width phases table.old × (phases ≤ 128) }
+    requires taps { (2 ≤ taps) × (taps % 2 ≡ 0) × (width ≡ row_width taps) }
+    requires fit { PhasesFit book.now taps width phases table.old }
     ensures { PhasesOf (narrowed book.now) taps width phases table.new }
 {
     match taps {
-        2 => rows_by(table, book, phases, 2, 8),
+        2 => rows_by::<2, 8>(table, book, phases),
         4 => rows_of_four(table, book, phases),
-        6 => rows_by(table, book, phases, 6, 8),
-        8 => rows_by(table, book, phases, 8, 8),
-        10 => rows_by(table, book, phases, 10, 16),
-        12 => rows_by(table, book, phases, 12, 16),
-        14 => rows_by(table, book, phases, 14, 16),
-        16 => rows_by(table, book, phases, 16, 16),
-        18 => rows_by(table, book, phases, 18, 32),
-        20 => rows_by(table, book, phases, 20, 32),
-        22 => rows_by(table, book, phases, 22, 32),
-        _ => rows_by(table, book, phases, 24, 32),
+        6 => rows_by::<6, 8>(table, book, phases),
+        8 => rows_by::<8, 8>(table, book, phases),
+        10 => rows_by::<10, 16>(table, book, phases),
+        12 => rows_by::<12, 16>(table, book, phases),
+        14 => rows_by::<14, 16>(table, book, phases),
+        16 => rows_by::<16, 16>(table, book, phases),
+        18 => rows_by::<18, 32>(table, book, phases),
+        20 => rows_by::<20, 32>(table, book, phases),
+        22 => rows_by::<22, 32>(table, book, phases),
+        _ => rows_by::<24, 32>(table, book, phases),
     }
 }
 
@@ -139,32 +109,36 @@ fn lobes(table: &[i16], count: usize, taps: usize, width: usize) -> bool
     requires { (2 ≤ taps) × (taps ≤ width) × (width ≤ 32) × (count * width ≤ length table.now) }
     ensures { result ≡ true → (q : ℕ) → q < count → Positive table.now (q * width) width }
 {
-    let mut middle = taps / 2;
-    let mut q = 0;
-    while q < count {
-        if !lobe(table, middle) {
+    for row in table[..count * width].chunks_exact(width) {
+        if !lobe(row, taps / 2) {
             return false;
         }
-        middle += width;
-        q += 1;
     }
     true
 }
 
-// The rows of a book, in a table of zeros that has room for them and a word more. Behind the last phase comes the first one, from its second impulse on. The
-// table's last word is 1 if a mark is asked for and each row has a positive coefficient: then a sum of any samples fits 32 bits.
-pub fn stage_rows(table: &mut [i16], book: &[i32], phases: usize, taps: usize, mark: bool)
-    requires { (book_number book.now ≡ 0) × (phases ≡ (sizes_of book.now).phases) × (taps ≡ (sizes_of book.now).taps) × ((phases + 1) * row_width taps < length table.old) × ((j : ℕ) → at table.old j ≡ pos 0) }
-    ensures { RowsOf book.now table.new }
+// The words, narrowed, into the front of a row.
+fn put_narrowed(row: &mut [i16], words: &[i32])
+    requires { length words.now ≤ length row.old }
+    ensures words { (k : ℕ) → k < length words.now → at row.new k ≡ limit (negsuc 32767) (pos 32767) (at words.now k) }
+    ensures rest { (k : ℕ) → length words.now ≤ k → at row.new k ≡ at row.old k }
+{
+    for k in 0..words.len() {
+        row[k] = narrow(words[k]);
+    }
+}
+
+// The rows of a book, in a table of zeros that has room for them. Behind the last phase comes the first one, from its second impulse on. The answer is
+// whether each row is known to have a positive coefficient, if that is asked: then a sum of any samples fits 32 bits.
+pub fn stage_rows(table: &mut [i16], book: &[i32], phases: usize, taps: usize, asked: bool) -> bool
+    requires accepted { book_number book.now ≡ 0 }
+    requires sizes { (phases ≡ (sizes_of book.now).phases) × (taps ≡ (sizes_of book.now).taps) }
+    requires room { (phases + 1) * row_width taps ≤ length table.old }
+    requires zeros { (j : ℕ) → at table.old j ≡ pos 0 }
+    ensures { RowsOf book.now table.new result }
 {
     let width = row_width(taps);
     phase_rows(table, book, phases, taps, width);
-    let row = row_of(book, 6, taps - 1);
-    put_row(table, phases * width, row, taps - 1);
-    if mark {
-        if lobes(table, phases + 1, taps, width) {
-            let last = table.len() - 1;
-            table[last] = 1;
-        }
-    }
+    put_narrowed(&mut table[phases * width..], &book[6..5 + taps]);
+    asked && lobes(table, phases + 1, taps, width)
 }

@@ -9,8 +9,8 @@ use lib.IntN.{ℤ}
 use lib.ListN.{length}
 use Rattle.arith.specs.Lists.{at}
 use Rattle.arith.proofs.Tests.{&&-left, &&-right}
-use Rattle.book.specs.Number.{refuse}
-use Rattle.book.proofs.Numbers.{none_first, none_second, condition_fails, not_refused}
+use Rattle.refusal.specs.Number.{refuse}
+use Rattle.refusal.proofs.Numbers.{none_first, none_second, condition_fails, not_refused}
 use Rattle.store.specs.Sizes.{samples_in_range, top_in_range, store_length}
 use Rattle.store.specs.Store.{sample_count, top_level}
 use Rattle.store.specs.Check.{store_number}

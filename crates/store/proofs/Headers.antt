@@ -11,7 +11,7 @@ use lib.Seq.{drop-append-add}
 use Rattle.arith.specs.Lists.{at, part}
 use Rattle.arith.proofs.Lists.{length-tabulate, get_or-tabulate}
 use Rattle.arith.proofs.Tests.{eq_z_yes, every_all}
-use Rattle.book.specs.Number.{refuse, ◌otherwise◌}
+use Rattle.refusal.specs.Number.{refuse, ◌otherwise◌}
 use Rattle.store.specs.Sizes.{samples_in_range, top_in_range, level_length, levels_below, header_length, level_start, store_length}
 use Rattle.store.specs.Store.{header_of, sample_count, top_level, store_level}
 use Rattle.store.specs.Check.{lengths_right, store_number}

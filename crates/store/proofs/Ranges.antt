@@ -4,6 +4,8 @@ use mathlib.Core.Path.{◌≡◌}
 use Prim.Native.Nat.{ℕ, ◌≤◌, ◌<◌}
 use native.Mathlib.Omega.{arith}
 use borrow.Author.Tests.{le-leb, lt-leb}
+use Rattle.std.proofs.Common.{ltb, not}
+use Rattle.std.proofs.lemmas.Bool.Decides.{nat_tests}
 use lib.IntN.{ℤ, pos, nat_abs}
 use Rattle.arith.proofs.Tests.{within_size}
 use Rattle.store.specs.Sizes.{samples_in_range, top_in_range}
@@ -39,3 +41,8 @@ samples_high S e = (within_size 1 1048576 S e).1
 pub top_high : (T : ℤ) → top_in_range T ≡ true → nat_abs T ≤ 4
 unfolding top_in_range
 top_high T e = (within_size 0 4 T e).1
+
+-- the one test that the code makes on T
+pub top_beyond : (T : ℕ) → ltb 4 T ≡ not (top_in_range (pos T))
+unfolding top_in_range
+top_beyond T = grind (arith, nat_tests)

@@ -2,7 +2,7 @@
 use Rattle.std.specs.Prelude.{Bool, not, ◌&&◌, List, ℕ, suc, ◌+◌, ltb, ℤ, pos, length}
 use Rattle.arith.specs.Lists.{at}
 use Rattle.arith.specs.Tests.{eq_z, every}
-use Rattle.book.specs.Number.{refuse, ◌otherwise◌}
+use Rattle.refusal.specs.Number.{refuse, ◌otherwise◌}
 use Rattle.store.specs.Sizes.{samples_in_range, top_in_range, level_length, store_length}
 use Rattle.store.specs.Store.{sample_count, top_level}
 

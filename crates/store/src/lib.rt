@@ -1,41 +1,54 @@
-// The level store: a header of S, T and the lengths of its levels, then levels 0..T, as signed words. `check` accepts a store or gives the
-// number that turns it away.
+// The level store: a header of S, T and the lengths of its levels, then levels 0..T, as signed words. `check` accepts a store or tells
+// what turns it away.
 
 #![tactic(auto)]
 
-ghost use Rattle.std.specs.Prelude.{◌≡◌, ◌+◌, ◌≤◌, ◌<◌, pos, length};
-ghost use Rattle.arith.specs.Lists.{at};
-ghost use Rattle.arith.specs.Tests.{eq_z};
+ghost use Rattle.std.specs.Prelude.{◌≡◌, ◌&&◌, ◌+◌, ◌≤◌, length};
+ghost use Rattle.arith.specs.Lists.{at, part};
+ghost use Rattle.refusal.specs.Number.{number_of};
+ghost use Rattle.store.specs.Sizes.{samples_in_range, top_in_range};
 ghost use Rattle.store.specs.Store.{sample_count, top_level};
 ghost use Rattle.store.specs.Check.{lengths_right, store_number};
 
-use arith::words::{word_between, word_size};
+use arith::words::between;
 use octave::half_length;
+use refusal::Refusal;
 
 pub mod sizes; // lengths of levels and stores
 
-// S, as a header names it.
+// S, as a header names it. That there is a header is a clause of these public functions: `check` reads it before it knows what else a store has.
+#[tactic(auto, unfolding(crate::specs::Store::sample_count))]
 pub fn sample_count(store: &[i32]) -> usize
     requires { 2 ≤ length store.now }
     ensures { result ≡ sample_count store.now }
 {
-    word_size(store, 0)
+    store[0].unsigned_abs() as usize
 }
 
 // T, as a header names it.
+#[tactic(auto, unfolding(crate::specs::Store::top_level))]
 pub fn top_level(store: &[i32]) -> u32
     requires { 2 ≤ length store.now }
     ensures { result ≡ top_level store.now }
 {
-    word_size(store, 1) as u32
+    store[1].unsigned_abs()
 }
 
-// Whether a word is `n`.
-fn word_is(store: &[i32], i: usize, n: usize) -> bool
-    requires { (i < length store.now) × (n ≤ 1048576) }
-    ensures { result ≡ eq_z (at store.now i) (pos n) }
+// Number 8: whether S and T, as signed words, are in their ranges.
+#[tactic(auto, unfolding(crate::specs::Sizes::samples_in_range, crate::specs::Sizes::top_in_range))]
+fn sizes_in_range(store: &[i32]) -> bool
+    requires { 2 ≤ length store.now }
+    ensures { result ≡ samples_in_range (at store.now 0) && top_in_range (at store.now 1) }
 {
-    store[i] == n as i32
+    between(store[0], 1, 1048576) && between(store[1], 0, 4)
+}
+
+// The lengths of levels 0..T, as a header writes them.
+fn written_lengths(store: &[i32]) -> &[i32]
+    requires { 3 + top_level store.now ≤ length store.now }
+    ensures { result.now ≡ part store.now 2 (1 + top_level store.now) }
+{
+    &store[2..3 + top_level(store) as usize]
 }
 
 // Number 18: whether each written length is the one that S and T give.
@@ -43,37 +56,31 @@ fn lengths_right(store: &[i32]) -> bool
     requires { (sample_count store.now ≤ 1048576) × (top_level store.now ≤ 4) × (3 + top_level store.now ≤ length store.now) }
     ensures { result ≡ lengths_right store.now }
 {
-    let lengths = top_level(store) as usize + 1;
     let mut length = sample_count(store);
-    let mut j = 0;
-    while j < lengths {
-        if !word_is(store, 2 + j, length) {
+    for word in written_lengths(store) {
+        if *word != length as i32 {
             return false;
         }
         length = half_length(length);
-        j += 1;
     }
     true
 }
 
-// 0 where the store is accepted, else the first of 9, 8, 9 and 18 whose condition holds.
-pub fn check(store: &[i32]) -> u32
-    ensures { result ≡ store_number store.now }
+// Accepts a store, or tells the first of the numbers 9, 8, 9 and 18 whose condition holds.
+pub fn check(store: &[i32]) -> Result<(), Refusal>
+    ensures { number_of result ≡ store_number store.now }
 {
     if store.len() < 2 {
-        return 9;
+        return Err(Refusal::StoreShort);
     }
-    if !word_between(store, 0, 1, 1048576) {
-        return 8;
-    }
-    if !word_between(store, 1, 0, 4) {
-        return 8;
+    if !sizes_in_range(store) {
+        return Err(Refusal::SamplesOrTop);
     }
     if store.len() < sizes::store_length(sample_count(store), top_level(store)) {
-        return 9;
+        return Err(Refusal::StoreShort);
     }
     if !lengths_right(store) {
-        return 18;
+        return Err(Refusal::StoreLevelLength);
     }
-    0
+    Ok(())
 }

@@ -7,43 +7,34 @@ use player::Voice;
 use std::io;
 use std::io::Write;
 use test_setting::Setting;
-use test_setting::orders::next_order;
+use test_setting::orders::Orders;
 
 // Plays 20 outputs and prints them.
-fn played(out: &mut impl Write, v: Voice, book: &[i32], store: &[i32]) -> io::Result<Voice> {
+fn played(out: &mut impl Write, voice: Voice, setting: &Setting) -> io::Result<Voice> {
     let mut block = [0i16; 20];
-    let answer = v.play(book, store, &mut block);
+    let after = match voice.play(&setting.book, &setting.store, &mut block) {
+        Ok(play) => play.voice,
+        Err(refused) => refused.voice,
+    };
     print::lines(out, &block)?;
-    Ok(answer.voice)
+    Ok(after)
 }
 
 // Draws 64 orders, and plays after each.
-fn drive(
-    out: &mut impl Write,
-    voice: Voice,
-    state: u32,
-    book: &[i32],
-    store: &[i32],
-) -> io::Result<()> {
-    let mut v = voice;
-    let mut last = state;
-    let mut n = 0u32;
-    while n < 64 {
-        let next = next_order(last);
-        let order = next.order;
-        v = played(out, v.order(order).voice, book, store)?;
-        last = next.state;
-        n += 1;
+fn drive(out: &mut impl Write, setting: &Setting) -> io::Result<()> {
+    let mut voice = setting.voice;
+    let orders = Orders {
+        state: setting.state,
+    };
+    for order in orders.take(64) {
+        let ordered = voice.order(order).unwrap_or_else(|refused| refused.voice);
+        voice = played(out, ordered, setting)?;
     }
     Ok(())
 }
 
 fn main(rt: HostRuntime) -> io::Result<()> {
     let mut out = rt.stdout();
-    let s = Setting::new();
-    let book = s.book;
-    let store = s.store;
-    let voice = s.voice;
-    drive(&mut out, voice, s.state, &book, &store)?;
+    drive(&mut out, &Setting::new())?;
     out.flush()
 }

@@ -5,7 +5,7 @@
 ghost use Rattle.std.specs.Prelude.{◌≡◌, ◌*◌, ◌%◌, ◌^◌, length};
 ghost use Rattle.test_hum.specs.Hum.{next_state, sample_of, drawn, draw_answer};
 
-// The product, modulo 2^32.
+// The product, modulo 2^32. Document 01 names this form for request (b), so it is not the library's wrapping_mul.
 fn wrapping_mul(a: u32, b: u32) -> u32
     ensures { result ≡ a * b % 2 ^ 32 }
 {
@@ -13,13 +13,15 @@ fn wrapping_mul(a: u32, b: u32) -> u32
 }
 
 // The state that follows.
+#[tactic(auto, unfolding(crate::specs::Hum::next_state))]
 pub fn next_state(state: u32) -> u32
     ensures { result ≡ next_state state }
 {
-    std::num::wrapping_add_u32(wrapping_mul(1664525, state), 1013904223)
+    wrapping_mul(1664525, state).wrapping_add(1013904223)
 }
 
 // The sample of a new state: its upper half, moved to the range of an i16.
+#[tactic(auto, unfolding(crate::specs::Hum::sample_of))]
 fn sample_of(state: u32) -> i16
     ensures { result ≡ sample_of state }
 {
@@ -31,12 +33,9 @@ pub fn draw(state: u32, samples: &mut [i16]) -> u32
     ensures { drawn result samples.new ≡ draw_answer state (length samples.old) }
 {
     let mut last = state;
-    let mut i = 0;
-    while i < samples.len() {
-        let next = next_state(last);
-        samples[i] = sample_of(next);
-        last = next;
-        i += 1;
+    for sample in samples.iter_mut() {
+        last = next_state(last);
+        *sample = sample_of(last);
     }
     last
 }

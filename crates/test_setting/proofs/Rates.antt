@@ -14,7 +14,7 @@ use lib.Ieee.Fits.{down_pos}
 use lib.Ieee.Positive.{positive_of_value, mul_at}
 use lib.IntN.{pos, negsuc}
 use lib.Pow.{pow-add, pow_pos, pow_mono, shl_lt}
-use Rattle.book.specs.Number.{refuse, ◌otherwise◌}
+use Rattle.refusal.specs.Number.{refuse, ◌otherwise◌}
 use Rattle.control.specs.declared.Order.TheVariants.{Jump, Glide}
 use Rattle.control.specs.Rate.{rate_in_range}
 use Rattle.control.proofs.Rates.{rate_wider}

@@ -3,7 +3,7 @@
 
 #![tactic(auto)]
 
-ghost use Rattle.std.specs.Prelude.{◌≡◌, length};
+ghost use Rattle.std.specs.Prelude.{◌≡◌};
 ghost use Rattle.test_hum.specs.Hum.{state_after};
 ghost use Rattle.test_setting.specs.Setting.{test_store, test_setting};
 
@@ -31,12 +31,12 @@ pub struct NextOrder {
 }
 
 // Draws the recording and builds its store. Hands back the state of the stream after the samples.
-fn build_store(samples: &mut [i16], store: &mut [i32]) -> u32
-    requires { (length samples.old ≡ 6400) × (length store.old ≡ 11205) }
-    ensures { (result ≡ state_after 0 6400) × (store.new ≡ test_store) }
+fn build_store(samples: &mut [i16; 6400], store: &mut [i32; 11205]) -> u32
+    ensures state { result ≡ state_after 0 6400 }
+    ensures built { store.new ≡ test_store }
 {
     let state = test_hum::draw(0, samples);
-    levels::build(&BOOK, samples, 2, store);
+    let _ = levels::build(&BOOK, samples, 2, store);
     state
 }
 
@@ -48,12 +48,10 @@ impl Setting {
         let mut samples = [0i16; 6400];
         let mut store = [0i32; 11205];
         let state = build_store(&mut samples, &mut store);
-        let book = BOOK;
-        let voice = Voice::open(Card { rate: 1.0, top: 2 }).voice;
         Setting {
-            book,
+            book: BOOK,
             store,
-            voice,
+            voice: Voice::open(Card { rate: 1.0, top: 2 }).unwrap_or_else(|refused| refused.voice),
             state,
         }
     }

@@ -1,6 +1,6 @@
 // Orders drawn from the stream of the test hum, one state each.
 
-ghost use Rattle.std.specs.Prelude.{◌≡◌};
+ghost use Rattle.std.specs.Prelude.{◌≡◌, Some};
 ghost use Rattle.test_setting.specs.Orders.{rate_from, order_from, next_order};
 
 use crate::NextOrder;
@@ -10,7 +10,7 @@ use control::Order;
 fn rate_from(state: u32) -> f32
     ensures { result ≡ rate_from state }
 {
-    (64 + state / 16777216) as f32 * 0.015625
+    (64 + state / (1 << 24)) as f32 * 0.015625
 }
 
 // A jump if the state is even, else a glide over 10 outputs.
@@ -29,12 +29,31 @@ fn order_from(state: u32) -> Order
 }
 
 // The next order, from the state that the last one left.
+#[tactic(auto, unfolding(crate::specs::Orders::next_order))]
 pub fn next_order(state: u32) -> NextOrder
     ensures { result ≡ next_order state }
 {
-    let next = test_hum::next_state(state);
+    let state = test_hum::next_state(state);
     NextOrder {
-        state: next,
-        order: order_from(next),
+        state,
+        order: order_from(state),
+    }
+}
+
+// The orders of the stream behind a state, without end.
+#[derive(Clone, Copy)]
+pub struct Orders {
+    pub state: u32,
+}
+
+impl Iterator for Orders {
+    type Item = Order;
+
+    ghost next_gives = { λ before order after. let next = next_order before.state in (order ≡ Some next.order) × (after.state ≡ next.state) };
+
+    fn next(&mut self) -> Option<Order> {
+        let next = next_order(self.state);
+        self.state = next.state;
+        Some(next.order)
     }
 }

@@ -1,5 +1,5 @@
 -- Sums of products: how large they are, and how they are taken apart. Assumes nothing.
-use mathlib.Core.Path.{◌≡◌, ap, ◌∙◌}
+use mathlib.Core.Path.{◌≡◌, sym, ap, ap₂, ◌∙◌}
 use mathlib.Core.List.{List}
 use Prim.Native.Nat.{ℕ, zero, suc, ◌+◌, ◌-◌, ◌*◌, ◌^◌, ◌≤◌, ◌<◌}
 use native.Mathlib.Nat.{le_refl, le_trans, mul-le-mul_right}
@@ -98,6 +98,9 @@ module _ (words : List ℤ) (a : ℕ) (table : List ℤ) (r W : ℕ) (few : tota
 
 -- ---- taken apart
 
+times_zero : (x : ℤ) → x *ℤ pos 0 ≡ pos 0
+times_zero x = simp linear (omega arith)
+
 -- coefficients that are 0 add nothing
 pub dot_sum_rest : (words : List ℤ) (a : ℕ) (table : List ℤ) (r N W : ℕ) → N ≤ W → ((k : ℕ) → N ≤ k → k < W → at table (r + k) ≡ pos 0) → dot_sum words a table r W ≡ dot_sum words a table r N
 unfolding dot_sum
@@ -109,34 +112,49 @@ dot_sum_rest words a table r N W h zeros =
     ∙ ap (λ x. sum N f +ℤ x) (sum_ext (W - N) (λ k m. ap (λ y. at words (a + (N + k)) *ℤ y) (zeros (N + k) (omega arith) (omega arith)) ∙ times_zero (at words (a + (N + k)))) ∙ sum-zero (W - N))
     ∙ plus_zero (sum N f)
   where
-    times_zero : (x : ℤ) → x *ℤ pos 0 ≡ pos 0
-    times_zero x = simp linear (omega arith)
-
     plus_zero : (x : ℤ) → x +ℤ pos 0 ≡ x
     plus_zero x = simp linear (omega arith)
 
--- of words that are multiples
-pub dot_sum_scaled : (window words : List ℤ) (a : ℕ) (table : List ℤ) (r N : ℕ) (u : ℤ) → ((k : ℕ) → k < N → at window (a + k) ≡ at words (a + k) *ℤ u)
-    → dot_sum window a table r N ≡ dot_sum words a table r N *ℤ u
-unfolding dot_sum
-dot_sum_scaled window words a table r N u h =
-    let f : ℕ → ℤ = λ k. at words (a + k) *ℤ at table (r + k) in
-    sum_ext N (λ k m. ap (λ x. x *ℤ at table (r + k)) (h k m) ∙ moved (at words (a + k)) (at table (r + k)))
-    ∙ sum-* N u f ∙ *ℤ_comm u (sum N f)
-  where
-    moved : (x g : ℤ) → (x *ℤ u) *ℤ g ≡ u *ℤ (x *ℤ g)
-    moved x g = simp products (simp terms (omega arith))
+-- a coefficient that is 0, or one of the first n words
+module _ {n : ℕ} (table : List ℤ) (r W : ℕ) (rest : (k : ℕ) → n ≤ k → k < W → at table (r + k) ≡ pos 0) where
+  each : (P : ℤ → ℕ → Type 0) → ((k : ℕ) → k < n → P (at table (r + k)) k) → ((k : ℕ) → P (pos 0) k) → (k : ℕ) → k < W → P (at table (r + k)) k
+  each P here none k h = go (dec_lt k n)
+    where
+      go : Dec (k < n) → P (at table (r + k)) k
+      go (yes l) = here k l
+      go (no d) = rw (rest k (omega arith) h) (none k)
 
--- of words in two parts
-pub dot_sum_parts : (window high low : List ℤ) (a : ℕ) (table : List ℤ) (r N : ℕ) (u : ℤ) → ((k : ℕ) → k < N → at window (a + k) ≡ at high (a + k) *ℤ u +ℤ at low (a + k))
-    → dot_sum window a table r N ≡ dot_sum high a table r N *ℤ u +ℤ dot_sum low a table r N
-unfolding dot_sum
-dot_sum_parts window high low a table r N u h =
-    let f : ℕ → ℤ = λ k. at high (a + k) *ℤ at table (r + k) in
-    let g : ℕ → ℤ = λ k. at low (a + k) *ℤ at table (r + k) in
-    sum_ext N (λ k m. ap (λ x. x *ℤ at table (r + k)) (h k m) ∙ moved (at high (a + k)) (at low (a + k)) (at table (r + k)))
-    ∙ sum-+ N (λ k. u *ℤ f k) g
-    ∙ ap (λ x. x +ℤ sum N g) (sum-* N u f ∙ *ℤ_comm u (sum N f))
-  where
-    moved : (x y g : ℤ) → (x *ℤ u +ℤ y) *ℤ g ≡ u *ℤ (x *ℤ g) +ℤ y *ℤ g
-    moved x y g = simp products (simp terms (omega arith))
+  -- of words that are multiples
+  pub dot_sum_scaled : (window words : List ℤ) (a : ℕ) (u : ℤ) → ((k : ℕ) → k < n → at window (a + k) ≡ at words (a + k) *ℤ u) → dot_sum window a table r W ≡ dot_sum words a table r W *ℤ u
+  unfolding dot_sum
+  dot_sum_scaled window words a u h =
+      let f : ℕ → ℤ = λ k. at words (a + k) *ℤ at table (r + k) in
+      sum_ext W
+      (each (λ g k. at window (a + k) *ℤ g ≡ u *ℤ (at words (a + k) *ℤ g)) (λ k m. ap (λ x. x *ℤ at table (r + k)) (h k m) ∙ moved (at words (a + k)) (at table (r + k)))
+      (λ k. nothing (at window (a + k)) (at words (a + k))))
+      ∙ sum-* W u f ∙ *ℤ_comm u (sum W f)
+    where
+      moved : (x g : ℤ) → (x *ℤ u) *ℤ g ≡ u *ℤ (x *ℤ g)
+      moved x g = simp products (simp terms (omega arith))
+
+      nothing : (y x : ℤ) → y *ℤ pos 0 ≡ u *ℤ (x *ℤ pos 0)
+      nothing y x = times_zero y ∙ sym (ap (λ z. u *ℤ z) (times_zero x) ∙ times_zero u)
+
+  -- of words in two parts
+  pub dot_sum_parts : (window high low : List ℤ) (a : ℕ) (u : ℤ) → ((k : ℕ) → k < n → at window (a + k) ≡ at high (a + k) *ℤ u +ℤ at low (a + k))
+      → dot_sum window a table r W ≡ dot_sum high a table r W *ℤ u +ℤ dot_sum low a table r W
+  unfolding dot_sum
+  dot_sum_parts window high low a u h =
+      let f : ℕ → ℤ = λ k. at high (a + k) *ℤ at table (r + k) in
+      let g : ℕ → ℤ = λ k. at low (a + k) *ℤ at table (r + k) in
+      sum_ext W
+      (each (λ c k. at window (a + k) *ℤ c ≡ u *ℤ (at high (a + k) *ℤ c) +ℤ at low (a + k) *ℤ c)
+      (λ k m. ap (λ x. x *ℤ at table (r + k)) (h k m) ∙ moved (at high (a + k)) (at low (a + k)) (at table (r + k))) (λ k. nothing (at window (a + k)) (at high (a + k)) (at low (a + k))))
+      ∙ sum-+ W (λ k. u *ℤ f k) g
+      ∙ ap (λ x. x +ℤ sum W g) (sum-* W u f ∙ *ℤ_comm u (sum W f))
+    where
+      moved : (x y g : ℤ) → (x *ℤ u +ℤ y) *ℤ g ≡ u *ℤ (x *ℤ g) +ℤ y *ℤ g
+      moved x y g = simp products (simp terms (omega arith))
+
+      nothing : (z x y : ℤ) → z *ℤ pos 0 ≡ u *ℤ (x *ℤ pos 0) +ℤ y *ℤ pos 0
+      nothing z x y = times_zero z ∙ sym (ap₂ ◌+ℤ◌ (ap (λ v. u *ℤ v) (times_zero x) ∙ times_zero u) (times_zero y))

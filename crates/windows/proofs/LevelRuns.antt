@@ -1,5 +1,6 @@
 -- The values of a level at a run's positions are those of the run's window. Assumes nothing.
 use mathlib.Core.Path.{◌≡◌, sym, ap, ap₂, subst, ◌∙◌}
+use mathlib.Core.Bool.{Bool}
 use mathlib.Core.List.{List}
 use Prim.Native.Nat.{ℕ, suc, ◌+◌, ◌*◌, ◌-◌, ◌/◌, ◌%◌, ◌^◌, ◌≤◌, ◌<◌}
 use native.Mathlib.Nat.{div-add-mod, mul-le-mul_right, mul-div-mul_right, add-mul-div_right, add-mul-mod_self_right, mod-lt}
@@ -20,7 +21,8 @@ use Rattle.rows.specs.Rows.{row_width, RowsOf}
 use Rattle.windows.specs.Places.{PlacesOf}
 use Rattle.dot_products.specs.Sums.{dot_sum, mixed_value}
 use Rattle.windows.specs.Runs.{RowFits, RunOf, run_value}
-use Rattle.rows.proofs.ImpulseRows.{row_tap, row_rest, row_total}
+use Rattle.rows.proofs.ImpulseRows.{row_width_between, taps_fit, row_tap, row_rest, row_total}
+use Rattle.windows.proofs.Dots.{dot_sum_rest}
 use Rattle.windows.proofs.Staged.{staged_small}
 
 -- ---- a position's distance from the beginning of a window, in 2^-32 words
@@ -68,19 +70,22 @@ module _ (b : List ℤ) (l : ℕ) (low : l ≤ 4) (base P : ℕ) (behind : base 
 
 -- ---- a book's rows
 
-module _ (b : List ℤ) (a : Accepted b) {table : List ℤ} (t : RowsOf b table) where
+module _ (b : List ℤ) (a : Accepted b) {table : List ℤ} {positive : Bool} (t : RowsOf b table positive) where
   abbrev N : ℕ
   N = (sizes_of b).taps
 
   abbrev W : ℕ
   W = row_width N
 
-  row_fits : (q : ℕ) → q ≤ (sizes_of b).phases → RowFits table (q * W) N W
-  row_fits q h = record {
+  wide : N ≤ W
+  wide = taps_fit N (sizes_bounded b a).taps_high
+
+  row_fits : (q n : ℕ) → q ≤ (sizes_of b).phases → N ≤ n → RowFits table positive (q * W) n W
+  row_fits q n h l = record {
     room = let in_table : suc q * W ≤ ((sizes_of b).phases + 1) * W = mul-le-mul_right W (omega arith) in omega (arith, in_table, t.room);
     size = row_total b a t q h;
-    rest = row_rest b a t q h;
-    positive = λ m. t.positive m q h;
+    rest = λ k m. row_rest b a t q h k (omega arith);
+    one = λ e. t.each e q h;
   }
 
   -- ---- a run
@@ -95,17 +100,14 @@ module _ (b : List ℤ) (a : Accepted b) {table : List ℤ} (t : RowsOf b table)
 
     module _ (window : List ℤ) (rows firsts offsets : List ℕ) where
       -- the window has the words from word last + N/2 back, and the places are those of the positions, from the beginning `start` on
-      pub record Prepared (taps width phases start reach : ℕ) : Type 0 where
-        pub window_room : length window ≡ 192
-        pub rows_room : n ≤ length rows
-        pub firsts_room : n ≤ length firsts
-        pub offsets_room : n ≤ length offsets
-        pub enough : last - base + taps ≤ reach
-        pub reach_high : reach ≤ 160
-        pub staged : (k : ℕ) → k < reach → at window k ≡ limited_word words l (pos (last + taps / 2) -ℤ pos k)
+      pub record Prepared (taps width phases start : ℕ) : Type 0 where
+        pub rows_length : length rows ≡ n
+        pub enough : last - base + taps ≤ length window
+        pub window_high : length window ≤ 160
+        pub staged : (k : ℕ) → k < length window → at window k ≡ limited_word words l (pos (last + taps / 2) -ℤ pos k)
         pub places : PlacesOf phases width (last - base) n (λ k. (P k - start) * 2 ^ (4 - l)) rows firsts offsets
 
-      module _ {reach : ℕ} (p : Prepared N W (sizes_of b).phases (base * unit l) reach) where
+      module _ (p : Prepared N W (sizes_of b).phases (base * unit l)) where
         row_is : (k : ℕ) → k < n → get_or rows k 0 ≡ q k * W
         row_is k h = p.places.row k h ∙ ap (λ x. x * W) (distance_phase b l low base (P k) (behind k h))
 
@@ -115,50 +117,53 @@ module _ (b : List ℤ) (a : Accepted b) {table : List ℤ} (t : RowsOf b table)
         first-is : (k : ℕ) → k < n → get_or firsts k 0 ≡ last - P k / unit l
         first-is k h = omega (arith, p.places.first k h, distance_words b l low base (P k) (behind k h), before k h, reached k h)
 
-        run_of : RunOf window table N reach n rows firsts offsets
-        run_of = let f = sizes_bounded b a in record {
-          rows_room = p.rows_room;
-          firsts_room = p.firsts_room;
-          offsets_room = p.offsets_room;
-          window_room = omega (arith, p.window_room, p.reach_high);
-          table_room = omega (arith, t.room);
-          reach_high = p.reach_high;
-          taps_high = f.taps_high;
-          words_small = staged_small window words l (last + N / 2) reach low p.staged;
-          inside = λ k h. omega (arith, first-is k h, reached k h, p.enough);
-          here = λ k h. rw (row_is k h) (row_fits (q k) (omega (arith, phase_below b a l (P k))));
-          next = λ k h. rw (next-row-is k h) (row_fits (suc (q k)) (phase_below b a l (P k)));
-          offset_low = λ k h. rw (p.places.offset k h) (mod-lt (distance b l low base (P k) (behind k h) % 2 ^ 32 * (sizes_of b).phases) (pow_pos 32));
+        -- the window has a value's words
+        inside : (k : ℕ) → k < n → get_or firsts k 0 + N ≤ length window
+        inside k h = omega (arith, first-is k h, reached k h, p.enough)
+
+        placed : (k : ℕ) → k < length rows → k < n
+        placed k h = omega (arith, h, p.rows_length)
+
+        run_of : RunOf window table positive W rows firsts offsets
+        run_of = record {
+          window_high = p.window_high;
+          wide = (row_width_between N).1;
+          words_small = staged_small window words l (last + N / 2) (length window) low p.staged;
+          inside = λ k h. omega (arith, inside k (placed k h));
+          here = λ k h. rw (row_is k (placed k h)) (row_fits (q k) _ (omega (arith, phase_below b a l (P k))) (omega (arith, inside k (placed k h))));
+          next = λ k h. rw (next-row-is k (placed k h)) (row_fits (suc (q k)) _ (phase_below b a l (P k)) (omega (arith, inside k (placed k h))));
+          offset_low = λ k h. let m = placed k h in rw (p.places.offset k m) (mod-lt (distance b l low base (P k) (behind k m) % 2 ^ 32 * (sizes_of b).phases) (pow_pos 32));
         }
 
         -- the words from a value's first place on, times a row, are the sum over a phase
-        total-is : (k m : ℕ) → k < n → m ≤ (sizes_of b).phases → {r : ℕ} → r ≡ m * W → dot_sum window (get_or firsts k 0) table r N ≡ phase_total b (limited_word words l) l (P k) m
+        total-is : (k m : ℕ) → k < n → m ≤ (sizes_of b).phases → {r : ℕ} → r ≡ m * W → dot_sum window (get_or firsts k 0) table r W ≡ phase_total b (limited_word words l) l (P k) m
         unfolding dot_sum phase_total
-        total-is k m h o e = rw e (sum_ext N (λ j i. ap₂ ◌*ℤ◌ (word-there j i) (row_tap b a t m o j i)))
+        total-is k m h o e = rw e (dot_sum_rest window (get_or firsts k 0) table (m * W) N W wide (row_rest b a t m o) ∙ sum_ext N (λ j i. ap₂ ◌*ℤ◌ (word-there j i) (row_tap b a t m o j i)))
           where
             word-there : (j : ℕ) → j < N → at window (get_or firsts k 0 + j) ≡ limited_word words l (pos (P k / unit l + N / 2) -ℤ pos j)
             word-there j i =
                 let f = first-is k h in
                 let place : pos (last + N / 2) -ℤ pos (get_or firsts k 0 + j) ≡ pos (P k / unit l + N / 2) -ℤ pos j = simp linear (omega (arith, f, before k h)) in
-                p.staged (get_or firsts k 0 + j) (omega (arith, f, before k h, reached k h, p.enough)) ∙ ap (limited_word words l) place
+                p.staged (get_or firsts k 0 + j) (omega (arith, inside k h)) ∙ ap (limited_word words l) place
 
         offset_is : (k : ℕ) → k < n → get_or offsets k 0 ≡ offset_at b l (P k) * 2 ^ (4 - l)
         offset_is k h = p.places.offset k h ∙ distance_offset b l low base (P k) (behind k h)
 
-        run-value : (k : ℕ) → k < n → run_value window table N rows firsts offsets k ≡ level_value b words l (P k)
+        run-value : (k : ℕ) → k < n → run_value window table W rows firsts offsets k ≡ level_value b words l (P k)
         unfolding run_value mixed_value
         run-value k h =
             level_value_phases b a words l (P k) low (total-is k (q k) h (omega (arith, phase_below b a l (P k))) (row_is k h))
             (total-is k (suc (q k)) h (phase_below b a l (P k)) (next-row-is k h)) (offset_is k h)
 
-      -- the same of sizes that are the book's
-      abbrev pub LevelRun : ℕ → ℕ → Type 0
-      LevelRun taps reach = RunOf window table taps reach n rows firsts offsets × ((k : ℕ) → k < n → run_value window table taps rows firsts offsets k ≡ level_value b words l (P k))
+      -- the same of sizes that are the book's, and of rows of w words
+      abbrev pub LevelRun : ℕ → Type 0
+      LevelRun w = RunOf window table positive w rows firsts offsets × ((k : ℕ) → k < n → run_value window table w rows firsts offsets k ≡ level_value b words l (P k))
           × ((k : ℕ) → k < n → get_or offsets k 0 ≡ offset_at b l (P k) * 2 ^ (4 - l))
 
-      pub level-run : {taps width phases start reach : ℕ} → taps ≡ N → width ≡ W → phases ≡ (sizes_of b).phases → start ≡ base * unit l → Prepared taps width phases start reach → LevelRun taps reach
-      level-run {taps} {width} {phases} {start} {reach} e f g h =
-          subst (λ t. Prepared t width phases start reach → LevelRun t reach) (sym e)
-          (subst (λ w. Prepared N w phases start reach → LevelRun N reach) (sym f)
-          (subst (λ m. Prepared N W m start reach → LevelRun N reach) (sym g)
-          (subst (λ s. Prepared N W (sizes_of b).phases s reach → LevelRun N reach) (sym h) (λ p. (run_of p, run-value p, offset_is p)))))
+      pub level-run : {taps width phases start w : ℕ} → taps ≡ N → width ≡ W → phases ≡ (sizes_of b).phases → start ≡ base * unit l → w ≡ width → Prepared taps width phases start → LevelRun w
+      level-run {taps} {width} {phases} {start} {w} e f g h i p =
+          let all : LevelRun W = of_book (rw (e, f, g, h) at p) in
+          subst LevelRun (sym (i ∙ f)) all
+        where
+          of_book : Prepared N W (sizes_of b).phases (base * unit l) → LevelRun W
+          of_book p = (run_of p, run-value p, offset_is p)

@@ -5,6 +5,8 @@ use mathlib.Core.List.{List}
 use Prim.Native.Nat.{ℕ, ◌+◌, ◌-◌, ◌^◌, ◌≤◌, ◌<◌}
 use native.Mathlib.Nat.{le_trans}
 use native.Mathlib.Omega.{arith}
+use mathlib.Core.Logic.{◌⊎◌, inl, inr}
+use lib.Signed.{◌≤ℤ◌, ◌<ℤ◌}
 use lib.IntN.{ℤ, pos, neg_ℤ, nat_abs, ◌-ℤ◌}
 use lib.Pow.{pow_mono}
 use mir.Syntax.{w32}
@@ -12,9 +14,11 @@ use mir.Val.{SFits}
 use Rattle.arith.specs.Limit.{limit}
 use Rattle.arith.specs.Lists.{at, word_at}
 use Rattle.arith.proofs.Bits.{reads, read32}
-use Rattle.arith.proofs.Integers.{abs_fits}
+use Rattle.arith.proofs.Integers.{abs_fits, ≤ℤ-or-<ℤ}
 use Rattle.arith.proofs.Linear.{abs_neg}
-use Rattle.arith.proofs.Limit.{limit_inside}
+use Rattle.arith.proofs.Limit.{limit_inside, limit_low, limit_high, limit-same}
+use Rattle.std.proofs.lemmas.Int.{ints, int_max_is, int_min_is}
+use Rattle.std.specs.Int.{int_max, int_min}
 use Rattle.book.proofs.Around.{before_inside}
 use Rattle.values.specs.Values.{limited_word}
 use Rattle.values.proofs.Values.{limited_word_bound}
@@ -31,9 +35,25 @@ module _ (l : ℕ) (low : l ≤ 4) (b : ℤ) (e : b ≡ pos (2 ^ (23 + l))) wher
   pub bound-small : (nat_abs (read32 b) ≤ 2 ^ 27) × (read32 b ≡ pos (nat_abs (read32 b)))
   bound-small = let f = bound_fits in simp (reads, f) (rw e (pow_mono {j = 27} (omega arith), refl))
 
-  pub limited_is : (words : List ℤ) (i x : ℤ) {w : ℤ} → SFits w32 x → x ≡ word_at words i → w ≡ limit (neg_ℤ (read32 b)) (read32 b) (read32 x) → w ≡ limited_word words l i
+  pub bound_high : nat_abs b ≤ 2 ^ 27
+  bound_high = rw e (pow_mono {j = 27} (omega arith))
+
+  pub bound-above : neg_ℤ b ≤ℤ b
+  bound-above = omega (arith, ints, e)
+
+  pub limited_is : (words : List ℤ) (i x : ℤ) {w : ℤ} → x ≡ word_at words i → w ≡ limit (neg_ℤ b) b x → w ≡ limited_word words l i
   unfolding limited_word
-  limited_is words i x f g h = let k = bound_fits in (simp (reads, k, f) at h) ∙ ap₂ (λ c y. limit (neg_ℤ c) c y) e g
+  limited_is words i x g h = h ∙ ap₂ (λ c y. limit (neg_ℤ c) c y) e g
+
+-- ---- a word between two bounds
+
+pub clamped : (lo hi x : ℤ) → lo ≤ℤ hi → int_max lo (int_min x hi) ≡ limit lo hi x
+clamped lo hi x h = go (≤ℤ-or-<ℤ lo x) (≤ℤ-or-<ℤ x hi)
+  where
+    go : (lo ≤ℤ x) ⊎ (x <ℤ lo) → (x ≤ℤ hi) ⊎ (hi <ℤ x) → int_max lo (int_min x hi) ≡ limit lo hi x
+    go (inr l) s = let e : int_max lo (int_min x hi) ≡ lo = omega (arith, ints, int_max_is, int_min_is) in e ∙ sym (limit_low lo hi x l)
+    go (inl l) (inr m) = let e : int_max lo (int_min x hi) ≡ hi = omega (arith, ints, int_max_is, int_min_is) in e ∙ sym (limit_high lo hi x h m)
+    go (inl l) (inl m) = let e : int_max lo (int_min x hi) ≡ x = omega (arith, ints, int_max_is, int_min_is) in e ∙ sym (limit-same lo hi x l m)
 
 -- ---- word `end` − k of a level
 

@@ -1,5 +1,11 @@
 -- Words in 16-bit parts: the parts of a word, and a loop that writes them, one word after another. Assumes nothing.
-use mathlib.Core.Path.{◌≡◌, refl, ◌∙◌}
+use mathlib.Core.Bool.{Bool, true, false, cond}
+use mathlib.Core.Path.{◌≡◌, refl, sym, ap, ◌∙◌}
+use borrow.Author.Tests.{eqb-true}
+use lib.Dec.{eqb}
+use mir.Syntax.{w32}
+use mir.Val.{SFits, of_z, to_z}
+use mir.ValLaws.{to_z-of_z}
 use mathlib.Core.List.{List}
 use Prim.Native.Nat.{ℕ, ◌+◌, ◌^◌, ◌≤◌, ◌<◌}
 use native.Mathlib.Decide.{ℕ_discrete}
@@ -37,6 +43,14 @@ module _ (x : ℤ) (small : nat_abs x ≤ 2 ^ 27) where
   high_narrow e =
       let y = shr_z x 16384 in
       e ∙ limit-same (negsuc 32767) (pos 32767) y (simp linear (omega (arith, simp linear at high_small))) (simp linear (omega (arith, simp linear at high_small)))
+
+-- no miss is counted of a word that is 256 × s
+pub multiple : {x : ℤ} (s : ℤ) {m : ℕ} → SFits w32 x → SFits w32 (s *ℤ pos 256) → m ≡ cond (eqb (of_z w32 x) (of_z w32 (s *ℤ pos 256))) 0 1 → m ≡ 0 → x ≡ s *ℤ pos 256
+multiple {x} s {m} f g e z = go (eqb (of_z w32 x) (of_z w32 (s *ℤ pos 256))) refl e
+  where
+    go : (t : Bool) → eqb (of_z w32 x) (of_z w32 (s *ℤ pos 256)) ≡ t → m ≡ cond t 0 1 → x ≡ s *ℤ pos 256
+    go true t e = sym (to_z-of_z w32 x f) ∙ ap (to_z w32) (eqb-true _ _ t) ∙ to_z-of_z w32 (s *ℤ pos 256) g
+    go false t e = absurd (omega arith)
 
 -- ---- two lists, with v and w written at k
 

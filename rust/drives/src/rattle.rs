@@ -61,55 +61,33 @@ fn constant<T: Display>(name: &str, kind: &str, words: &[T]) -> String {
     )
 }
 
-/// The names of the program's module `calls` that a call is written with.
-fn names(call: Call) -> &'static [&'static str] {
+/// A call, as the program's module `calls` writes it.
+fn written(call: Call) -> String {
     match call {
-        Call::Jump(_) => &["JUMP"],
-        Call::Glide(..) => &["GLIDE", "COUNT"],
-        Call::Seek(_) => &["SEEK"],
-        Call::Play(_) => &["PLAY"],
-    }
-}
-
-/// Below this are the numbers that are added to a call's name.
-const CALL: u64 = 1 << 61;
-
-/// A call as a number.
-fn number(call: Call) -> String {
-    match call {
-        Call::Jump(rate) => format!("JUMP + 0x{:08x}", rate.to_bits()),
-        Call::Glide(rate, count) => {
-            assert!(u64::from(count) < CALL >> 32);
-            format!("GLIDE + {count} * COUNT + 0x{:08x}", rate.to_bits())
-        }
-        Call::Seek(position) => {
-            assert!(position < CALL);
-            format!("SEEK + {position}")
-        }
-        Call::Play(count) => format!("PLAY + {count}"),
+        Call::Jump(rate) => format!("Call::Jump(0x{:08x})", rate.to_bits()),
+        Call::Glide(rate, count) => format!("Call::Glide(0x{:08x}, {count})", rate.to_bits()),
+        Call::Seek(position) => format!("Call::Seek({position})"),
+        Call::Play(count) => format!("Call::Play({count})"),
     }
 }
 
 /// The module of a drive.
 pub fn module(drive: &SmallDrive) -> String {
-    let calls = || drive.calls.iter().map(|answered| answered.call);
-    let mut names: Vec<&str> = calls().flat_map(names).copied().collect();
-    names.sort_unstable();
-    names.dedup();
-    let mut text = format!("// Drive {}, made by rust/drives.\n", drive.seed);
-    match &names[..] {
-        [name] => text += &format!("use crate::calls::{name};\n"),
-        _ => text += &format!("use crate::calls::{{{}}};\n", names.join(", ")),
-    }
-    text += "use crate::drive;\nuse std::io;\nuse std::io::Write;\n\n";
+    let mut text = format!(
+        "// Drive {}, made by rust/drives: its numbers, handed to the one printer of drives.\n",
+        drive.seed
+    );
+    text += "use crate::calls::Call;\n";
+    text += "use crate::drive::Drive;\nuse std::io;\nuse std::io::Write;\n\n";
     text += &constant("BOOK", "i32", &drive.setting.book);
     text += &constant("SAMPLES", "i16", &drive.setting.samples);
-    let numbers: Vec<String> = calls().map(number).collect();
-    text += &constant("CALLS", "u64", &numbers);
+    let calls = drive.calls.iter().map(|answered| written(answered.call));
+    text += &constant("CALLS", "Call", &calls.collect::<Vec<String>>());
     let (seed, top, rate) = (drive.seed, drive.setting.top, drive.rate.to_bits());
-    let given = format!("{seed}, &BOOK, &SAMPLES, {top}, 0x{rate:08x}, &CALLS");
-    text += "pub fn text(out: &mut impl Write) -> io::Result<()> {\n";
-    text + &format!("    drive::text(out, {given})\n}}\n")
+    text += "pub fn text(out: &mut impl Write) -> io::Result<()> {\n    let drive = Drive {\n";
+    text += &format!("        seed: {seed},\n        book: &BOOK,\n        samples: &SAMPLES,\n");
+    text += &format!("        top: {top},\n        rate: 0x{rate:08x},\n        calls: &CALLS,\n");
+    text + "    };\n    drive.text(out)\n}\n"
 }
 
 /// The files of the drives of these seeds, by their paths in the program's

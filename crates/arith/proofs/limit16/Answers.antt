@@ -57,12 +57,6 @@ module _ (c : After-positive_part-left) where
   result_fits : SFits w32 (high -ℤ left)
   result_fits = sfits_widen tt result_small
 
-pub overflow_add-x : goal.overflow_add-x
-overflow_add-x c = simp (reads, c.ranges.x) (height_fits c)
-
-pub overflow_sub-risen : goal.overflow_sub-risen
-overflow_sub-risen c = simp (reads, risen_fits c) (room_fits c)
-
 pub overflow_sub-result : goal.overflow_sub-result
 overflow_sub-result c = simp (reads, left_fits c) (result_fits c)
 

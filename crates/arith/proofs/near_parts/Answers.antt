@@ -4,16 +4,17 @@ use mathlib.Core.Path.{◌≡◌, refl, sym, ap, ap₂, subst, ◌∙◌}
 use native.Mathlib.Omega.{arith}
 use Prim.Native.Nat.{ℕ, ◌+◌, ◌*◌, ◌/◌, ◌^◌, ◌≤◌, ◌<◌}
 use lib.IntN.{ℤ, pos, nat_abs, ◌+ℤ◌, ◌-ℤ◌, ◌*ℤ◌, +ℤ_comm}
-use lib.Signed.{◌≤ℤ◌}
+use lib.Signed.{◌≤ℤ◌, lt_z_yes}
 use mir.Syntax.{w64}
 use mir.Val.{SFits}
 use Rattle.arith.specs.Floor.{floor_div}
 use Rattle.arith.proofs.Bits.{reads}
 use Rattle.arith.proofs.Linear.{linear, signed, abs-*}
 use Rattle.arith.proofs.Integers.{<ℤ-≤ℤ, abs-≤, abs_above, abs_triangle, abs_fits}
+use Rattle.arith.proofs.Floor.{rest_euclid}
 use Rattle.arith.proofs.Rounding.{odd_of, odd_small, part_small, nearly_of, raised_of, raised_small, near_parts}
 use Rattle.arith.proofs.near_parts.Goals as goal
-use Rattle.arith.proofs.near_parts.Goals.{After-excess-odd, After-floor_shift, After-floor_shift-3, Start}
+use Rattle.arith.proofs.near_parts.Goals.{After-rem_euclid-odd, After-floor_shift, After-floor_shift-3, Start}
 
 module _ (s : Start) where
   abbrev high : ℤ
@@ -41,16 +42,16 @@ module _ (s : Start) where
   h_some = simp linear (omega signed)
 
   h_high : h ≤ 2 ^ 33
-  h_high = abs-≤ half (s.requires.pos_bound_4, simp linear (omega signed))
+  h_high = abs-≤ half (s.requires.half_high, simp linear (omega signed))
 
   twice_fits : SFits w64 (pos 2 *ℤ half)
   twice_fits = simp linear (omega signed)
 
   product_is : half *ℤ unit ≡ pos (h * u)
-  product_is = ap₂ (λ x y. x *ℤ y) (abs_above (<ℤ-≤ℤ s.requires.pos_bound_3)) (abs_above (<ℤ-≤ℤ s.requires.pos_bound_1))
+  product_is = ap₂ (λ x y. x *ℤ y) (abs_above (<ℤ-≤ℤ s.requires.half_low)) (abs_above (<ℤ-≤ℤ s.requires.unit_low))
 
   product_small : nat_abs (half *ℤ unit) ≤ 2 ^ 48
-  product_small = omega (arith, ap nat_abs product_is, s.requires.unit_bound.2)
+  product_small = omega (arith, ap nat_abs product_is, s.requires.divisor_bound)
 
   product-fits : SFits w64 (half *ℤ unit)
   product-fits = abs_fits w64 (half *ℤ unit) (omega (arith, product_small))
@@ -58,9 +59,6 @@ module _ (s : Start) where
   -- the quotient whose lowest bit decides
   abbrev n : ℤ
   n = floor_div (high +ℤ floor_div low u) (2 * h)
-
-pub floor_shift-requires : goal.floor_shift-requires
-floor_shift-requires c = simp (reads, c.ranges.low, c.ranges.unit) (record { fact_1 = omega (arith, c.requires.unit_bound.1); fact_2 = c.requires.pos_bound_1; fact_3 = simp linear (omega signed) })
 
 -- ---- the lowest bit
 module _ (c : After-floor_shift) where
@@ -77,7 +75,7 @@ module _ (c : After-floor_shift) where
   whole_small =
       let s = c.before in
       let small : nat_abs part ≤ nat_abs (low s) / u s + 1 = rw part_is (part_small (low s) (u_some s)) in
-      omega (arith, small, s.requires.unit_bound.0, abs_triangle (high s) part)
+      omega (arith, small, s.requires.parts_far_from_ends.0, abs_triangle (high s) part)
 
   whole_fits : SFits w64 (high c.before +ℤ part)
   whole_fits = abs_fits w64 (high c.before +ℤ part) (omega (arith, whole_small))
@@ -85,25 +83,19 @@ module _ (c : After-floor_shift) where
 pub overflow_add-high : goal.overflow_add-high
 overflow_add-high c = simp (reads, c.before.ranges.high, part_fits c) (whole_fits c)
 
-pub overflow_mul-half : goal.overflow_mul-half
-overflow_mul-half c = let s = c.before in simp (reads, s.ranges.half) (twice_fits s)
-
-pub floor_shift-requires-2 : goal.floor_shift-requires-2
-floor_shift-requires-2 c =
-    let s = c.before in
-    simp (reads, s.ranges.high, s.ranges.half, part_fits c, whole_fits c, twice_fits s)
-    (record { fact_1 = omega (arith, whole_small c); fact_2 = simp linear (omega signed); fact_3 = simp linear (omega signed) })
+pub floor_shift-requires-2-clause-far_from_ends : goal.floor_shift-requires-2-clause-far_from_ends
+floor_shift-requires-2-clause-far_from_ends c = simp (reads, c.before.ranges.high, part_fits c, whole_fits c) (whole_small c)
 
 -- ---- the raised lower part
-module _ (c : After-excess-odd) where
+module _ (c : After-rem_euclid-odd) where
   abbrev start : Start
   start = c.before.before.before
 
   abbrev odd : ℤ
-  odd = c.excess-odd.result
+  odd = c.rem_euclid-odd.result
 
   odd_fits : SFits w64 odd
-  odd_fits = record { sfits = c.excess-odd.type_inv }
+  odd_fits = record { sfits = c.rem_euclid-odd.type_inv }
 
   odd_is : odd ≡ odd_of (n start)
   odd_is =
@@ -112,7 +104,7 @@ module _ (c : After-excess-odd) where
       let q_fits : SFits w64 q.result = record { sfits = q.type_inv } in
       let quotient : q.result ≡ floor_div (high start +ℤ part first) (2 * h start) =
       simp (reads, start.ranges.high, start.ranges.half, part_fits first, whole_fits first, twice_fits start, abs-*) at q.ensures in
-      (simp (reads, q_fits) at c.excess-odd.ensures) ∙ ap odd_of (quotient ∙ ap (λ x. floor_div (high start +ℤ x) (2 * h start)) (part_is first))
+      (simp (reads, q_fits) at c.rem_euclid-odd.ensures.value) ∙ rest_euclid q.result {b = pos 2} (lt_z_yes tt) ∙ ap odd_of (quotient ∙ ap (λ x. floor_div (high start +ℤ x) (2 * h start)) (part_is first))
 
   odd_range : (pos 0 ≤ℤ odd) × (odd ≤ℤ pos 1)
   odd_range = rw odd_is (odd_small (n start))
@@ -133,10 +125,10 @@ module _ (c : After-excess-odd) where
   nearly_fits = simp linear (omega (signed, simp linear at (product_small start), simp linear at odd_range))
 
   added_fits : SFits w64 (low start +ℤ nearly)
-  added_fits = simp linear (omega (signed, simp linear at (product_small start), simp linear at start.requires.unit_bound.1, simp linear at odd_range))
+  added_fits = simp linear (omega (signed, simp linear at (product_small start), simp linear at start.requires.parts_far_from_ends.1, simp linear at odd_range))
 
   small : nat_abs raised + 2 ^ 34 ≤ 2 ^ 63
-  small = simp linear (omega (signed, simp linear at (product_small start), simp linear at start.requires.unit_bound.1, simp linear at odd_range))
+  small = simp linear (omega (signed, simp linear at (product_small start), simp linear at start.requires.parts_far_from_ends.1, simp linear at odd_range))
 
   raised_fits : SFits w64 raised
   raised_fits = abs_fits w64 raised (omega (arith, small))
@@ -155,15 +147,14 @@ overflow_add-raised-2 c =
     let s = start c in
     simp (reads, s.ranges.low, s.ranges.half, s.ranges.unit, product-fits s, nearly_fits c, added_fits c, odd_fits c) (raised_fits c)
 
-pub floor_shift-requires-3 : goal.floor_shift-requires-3
-floor_shift-requires-3 c =
+pub floor_shift-requires-3-clause-far_from_ends : goal.floor_shift-requires-3-clause-far_from_ends
+floor_shift-requires-3-clause-far_from_ends c =
     let s = start c in
-    simp (reads, s.ranges.low, s.ranges.half, s.ranges.unit, product-fits s, nearly_fits c, added_fits c, odd_fits c, raised_fits c)
-    (record { fact_1 = omega (arith, small c); fact_2 = s.requires.pos_bound_1; fact_3 = simp linear (omega signed) })
+    simp (reads, s.ranges.low, s.ranges.half, s.ranges.unit, product-fits s, nearly_fits c, added_fits c, odd_fits c, raised_fits c) (small c)
 
 -- ---- the result
 module _ (c : After-floor_shift-3) where
-  abbrev e : After-excess-odd
+  abbrev e : After-rem_euclid-odd
   e = c.before
 
   abbrev carried : ℤ
@@ -183,7 +174,7 @@ module _ (c : After-floor_shift-3) where
   sum_small =
       let s = start e in
       let part : nat_abs carried ≤ nat_abs (low s) / u s + 1 + h s = subst (λ x. nat_abs x ≤ nat_abs (low s) / u s + 1 + h s) (sym carried_is) (raised_small (low s) (u_some s) (h s) (n s)) in
-      omega (arith, part, h_high s, s.requires.unit_bound.0, abs_triangle carried (high s))
+      omega (arith, part, h_high s, s.requires.parts_far_from_ends.0, abs_triangle carried (high s))
 
   sum_fits : SFits w64 (carried +ℤ high (start e))
   sum_fits = abs_fits w64 (carried +ℤ high (start e)) (omega (arith, sum_small))
@@ -191,14 +182,8 @@ module _ (c : After-floor_shift-3) where
 pub overflow_add-floor_shift : goal.overflow_add-floor_shift
 overflow_add-floor_shift c = simp (reads, (start (e c)).ranges.high, carried_fits c) (sum_fits c)
 
-pub overflow_mul-half-2 : goal.overflow_mul-half-2
-overflow_mul-half-2 c = let s = start (e c) in simp (reads, s.ranges.half) (twice_fits s)
-
-pub floor_shift-requires-4 : goal.floor_shift-requires-4
-floor_shift-requires-4 c =
-    let s = start (e c) in
-    simp (reads, s.ranges.high, s.ranges.half, carried_fits c, sum_fits c, twice_fits s)
-    (record { fact_1 = sum_small c; fact_2 = simp linear (omega signed); fact_3 = simp linear (omega signed) })
+pub floor_shift-requires-4-clause-far_from_ends : goal.floor_shift-requires-4-clause-far_from_ends
+floor_shift-requires-4-clause-far_from_ends c = simp (reads, (start (e c)).ranges.high, carried_fits c, sum_fits c) (sum_small c)
 
 pub returns : goal.returns
 returns c =

@@ -46,14 +46,5 @@ module _ (c : Start) where
       sign_ind x c.ranges.x (λ s. SFits w32 (x -ℤ x *ℤ (pos 0 -ℤ s)))
       (λ e. simp linear (omega arith)) (λ e. simp linear (omega (arith, simp linear at c.ranges.x)))
 
-pub overflow_sub-result : goal.overflow_sub-result
-overflow_sub-result c = simp (reads, c.ranges.x, sign_fits c) (factor_fits c)
-
-pub overflow_mul-result : goal.overflow_mul-result
-overflow_mul-result c = simp (reads, c.ranges.x, sign_fits c, factor_fits c) (product-fits c)
-
-pub overflow_sub-result-2 : goal.overflow_sub-result-2
-overflow_sub-result-2 c = simp (reads, c.ranges.x, sign_fits c, factor_fits c, product-fits c) (result_fits c)
-
 pub returns : goal.returns
 returns c = simp (reads, c.ranges.x, sign_fits c, factor_fits c, product-fits c, result_fits c) (result-is c)

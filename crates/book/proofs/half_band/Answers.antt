@@ -1,43 +1,43 @@
--- `book::half_band` meets its contract. The loop's invariant: k is even, and the taps passed at an even distance are 0. Assumes nothing.
-use Rattle.std.proofs.Common.{◌≡◌, ℕ, ◌+◌, ◌-◌, ◌*◌, ◌/◌, ◌<◌, ◌≤◌, List, ℤ, pos, sym, refl, ap, ◌∙◌, arith, w32, SFits}
+-- `book::half_band` meets its contract: item e of the chain is tap 2 + e × 2. Assumes nothing.
+use Rattle.std.proofs.Common.{◌≡◌, ℕ, ◌+◌, ◌*◌, Bool, true, false, length, pos, refl, ◌∙◌, arith}
 use native.Mathlib.Decide.{dec_lt}
 use Rattle.arith.specs.Lists.{at}
-use Rattle.arith.proofs.Bits.{bits_zero}
 use Rattle.arith.proofs.Lists.{at_outside}
-use Rattle.book.proofs.half_band.Invariants.{Passed}
+use Rattle.book.specs.Inner.{HalfBand}
 use Rattle.book.proofs.half_band.Goals as goal
+use Rattle.book.proofs.half_band.Goals.{After-all}
 
--- a tap at an even distance is 0: below k by that, from k on by what is given
-zero-at : (taps : List ℤ) (k e : ℕ) → Passed taps k → (k ≤ 2 * e + 2 → at taps (2 * e + 2) ≡ pos 0) → at taps (2 * e + 2) ≡ pos 0
-zero-at taps k e before rest = go (dec_lt (2 * e + 2) k)
-  where
-    go : Dec (2 * e + 2 < k) → at taps (2 * e + 2) ≡ pos 0
-    go (yes l) = before e l
-    go (no l) = rest (omega arith)
+-- where each item passed
+holds : (c : After-all) → c.all.result ≡ true → HalfBand c.args.taps.now
+holds c h e =
+    elim (dec_lt (2 * e + 2) (length c.args.taps.now)) [
+      | yes l ↦
+          let p = c.all.ensures.runs.0 in
+          let s = c.step_by.ensures.runs p p.seen c.all.ensures.runs.1 in
+          let k = c.skip.ensures.runs s.0 s.0.seen s.1 in
+          let i = c.iter.ensures.runs k.0 k.0.seen in
+          let m = rw h at c.all.ensures.runs.2 in
+          let one : p.at e ≡ s.0.at (e * 2) = s.2.4 e in
+          let two : s.0.at (e * 2) ≡ k.0.at (2 + e * 2) = k.2.3 (e * 2) in
+          grind (arith, one, two, i, m, k.2.1, k.2.0, s.2.0, s.2.2, s.2.3)
+      | no n ↦ at_outside c.args.taps.now (2 * e + 2) (omega arith)
+    ]
 
-pub loop-k-init : goal.loop-k-init
-loop-k-init c = (omega arith, omega arith, refl, λ e l. absurd (omega arith))
-
-pub returns-then-taps-k-ne0 : goal.returns-then-taps-k-ne0
-returns-then-taps-k-ne0 c =
-    let a = c.before.before.before in
-    let taps : List ℤ = a.before.args.taps.now in
-    let k : ℕ = a.loop-k.k in
-    let fits : SFits w32 (at taps k) = record { sfits = c.before.t6-1.given } in
-    let i : 2 * (k / 2 - 1) + 2 ≡ k = omega (arith, a.loop-k.invariant.1, a.loop-k.invariant.2) in
-    (λ e. let z : ◌≡◌ {A = ℕ} 0 1 = cc in absurd (omega arith), λ h. absurd (c.if-taps-k-ne0.true ((bits_zero w32 (at taps k) fits).1 (sym (ap (at taps) i) ∙ h (k / 2 - 1)))))
-
-pub loop-k-preserved : goal.loop-k-preserved
-loop-k-preserved c =
-    let a = c.before.before.before in
-    let taps : List ℤ = a.before.args.taps.now in
-    let k : ℕ = a.loop-k.k in
-    let fits : SFits w32 (at taps k) = record { sfits = c.before.t6-1.given } in
-    let none : at taps k ≡ pos 0 = (bits_zero w32 (at taps k) fits).0 c.if-taps-k-ne0.false in
-    (omega arith, omega arith, omega arith, λ e l. zero-at taps k e a.loop-k.invariant.3 (λ m. let i : 2 * e + 2 ≡ k = omega (arith, a.loop-k.invariant.2) in ap (at taps) i ∙ none))
+-- where one did not
+found : (c : After-all) → HalfBand c.args.taps.now → (t : Bool) → c.all.result ≡ t → t ≡ true
+found c h true e = refl
+found c h false e =
+    let p = c.all.ensures.runs.0 in
+    let s = c.step_by.ensures.runs p p.seen c.all.ensures.runs.1 in
+    let k = c.skip.ensures.runs s.0 s.0.seen s.1 in
+    let i = c.iter.ensures.runs k.0 k.0.seen in
+    let m = rw e at c.all.ensures.runs.2 in
+    let one : (n : ℕ) → p.at n ≡ k.0.at (2 + n * 2) = λ n. s.2.4 n ∙ k.2.3 (n * 2) in
+    let zero : (n : ℕ) → at c.args.taps.now (2 + n * 2) ≡ pos 0 = λ n. let place : 2 * n + 2 ≡ 2 + n * 2 = omega arith in rw place at (h n) in
+    let item = m (λ a r f' l. refl) in
+    let passed = rw (one item.0) at item.2 in
+    let none : ⊥ = grind (arith, i, passed, zero item.0) in
+    absurd none
 
 pub returns : goal.returns
-returns c =
-    let a = c.before in
-    let taps : List ℤ = a.before.args.taps.now in
-    (λ r e. zero-at taps a.loop-k.k e a.loop-k.invariant.3 (λ m. at_outside taps (2 * e + 2) (omega arith)), λ h. refl)
+returns c = (holds c, λ h. found c h c.all.result refl)

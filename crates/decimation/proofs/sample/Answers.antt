@@ -15,7 +15,7 @@ use Rattle.decimation.proofs.sample.Goals as goal
 use Rattle.decimation.proofs.sample.Goals.{After-near}
 
 pub near-requires : goal.near-requires
-near-requires c = simp (reads, c.ranges.sum) (record { fact_1 = omega arith; fact_2 = lt_z_yes tt; fact_3 = le_z_yes tt })
+near-requires c = simp (reads, c.ranges.sum) (record { far_from_ends = omega arith; half_low = lt_z_yes tt; half_high = le_z_yes tt })
 
 module _ (c : After-near) where
   rounded_is : c.near.result ≡ near c.before.args.sum (2 ^ 22)

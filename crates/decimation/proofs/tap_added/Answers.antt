@@ -12,16 +12,16 @@ use Rattle.decimation.proofs.tap_added.Goals.{Start}
 
 module _ (s : Start) where
   abbrev before : ℤ
-  before = at s.args.line.now (s.args.centre - s.args.k)
+  before = at s.args.line.points.now (s.args.centre - s.args.k)
 
   abbrev after : ℤ
-  after = at s.args.line.now (s.args.centre + s.args.k)
+  after = at s.args.line.points.now (s.args.centre + s.args.k)
 
-  point_fits : (i : ℕ) → SFits w64 (at s.args.line.now i)
-  point_fits i = abs_fits w64 (at s.args.line.now i) (omega (arith, s.requires.by_index i))
+  point_fits : (i : ℕ) → SFits w64 (at s.args.line.points.now i)
+  point_fits i = abs_fits w64 (at s.args.line.points.now i) (omega (arith, s.args.line.small i))
 
   pair_small : nat_abs (before +ℤ after) ≤ 2 ^ 30
-  pair_small = omega (arith, abs_triangle before after, s.requires.by_index (s.args.centre - s.args.k), s.requires.by_index (s.args.centre + s.args.k))
+  pair_small = omega (arith, abs_triangle before after, s.args.line.small (s.args.centre - s.args.k), s.args.line.small (s.args.centre + s.args.k))
 
   pair_fits : SFits w64 (before +ℤ after)
   pair_fits = abs_fits w64 (before +ℤ after) (omega (arith, pair_small))
@@ -30,7 +30,7 @@ module _ (s : Start) where
   product = s.args.tap *ℤ (before +ℤ after)
 
   product_small : nat_abs product ≤ 2 ^ 45
-  product_small = abs-*-≤ s.args.tap (before +ℤ after) s.requires.sum_bound.1 pair_small
+  product_small = abs-*-≤ s.args.tap (before +ℤ after) s.requires.small.1 pair_small
 
   product-fits : SFits w64 product
   product-fits = abs_fits w64 product (omega (arith, product_small))

@@ -150,7 +150,14 @@ overflow_mul-e-2 c = simp (reads, e_low c, c.ranges.low1, c.ranges.low2, low_ste
 pub near_parts-requires : goal.near_parts-requires
 near_parts-requires c =
     simp (reads, e_low c, c.ranges.high1, c.ranges.low1, c.ranges.high2, c.ranges.low2, high_fits c, low_fits c, both_fits c, high_step_fits c, low_step_fits c, product-fits c, head_fits c, tail_fits c)
-    (record { unit_bound = (omega (arith, head_size c, tail_size c, div-add-mod (nat_abs (tail c)) 16384), tail_size c, omega arith); pos_bound_1 = lt_z_yes tt; pos_bound_2 = le_z_yes tt; pos_bound_3 = lt_z_yes tt; pos_bound_4 = le_z_yes tt })
+    (record {
+      parts_far_from_ends = (omega (arith, head_size c, tail_size c, div-add-mod (nat_abs (tail c)) 16384), tail_size c);
+      divisor_bound = omega arith;
+      unit_low = lt_z_yes tt;
+      unit_high = le_z_yes tt;
+      half_low = lt_z_yes tt;
+      half_high = le_z_yes tt;
+    })
 
 pub returns : goal.returns
 unfolding parts_value mixed_value

@@ -89,7 +89,7 @@ overflow_add-b c = simp (reads, e_low c, c.ranges.base, c.ranges.next, base_fits
 
 pub near-requires : goal.near-requires
 near-requires c =
-    simp (reads, e_low c, c.ranges.base, c.ranges.next, base_fits c, step_fits c, product-fits c, whole_fits c) (record { fact_1 = whole_size c; fact_2 = lt_z_yes tt; fact_3 = le_z_yes tt })
+    simp (reads, e_low c, c.ranges.base, c.ranges.next, base_fits c, step_fits c, product-fits c, whole_fits c) (record { far_from_ends = whole_size c; half_low = lt_z_yes tt; half_high = le_z_yes tt })
 
 pub returns : goal.returns
 unfolding mixed_value

@@ -1,5 +1,4 @@
 -- `levels::build` meets its contract: a number writes nothing, and else the header is written, and behind it the levels. Assumes nothing.
-use borrow.Author.Tests.{ne_eqb}
 use mathlib.Core.List.{List, ◌++◌}
 use mathlib.Core.Path.{◌≡◌, sym, ap, ◌∙◌}
 use Prim.Native.Nat.{ℕ, ◌+◌, ◌-◌, ◌≤◌}
@@ -17,30 +16,31 @@ use Rattle.store.proofs.Lengths.{store_length_is}
 use Rattle.store.proofs.Headers.{length_header}
 use Rattle.levels.specs.Levels.{levels_of}
 use Rattle.levels.specs.Build.{built, build_number, built_store, build_answer}
+use Rattle.refusal.proofs.Numbers.{handed}
 use Rattle.levels.proofs.Fitting.{Fitting, fitting}
 use Rattle.levels.proofs.build.Goals as goal
-use Rattle.levels.proofs.build.Goals.{After-write_header, Else-number-ne0}
+use Rattle.levels.proofs.build.Goals.{After-write_header, In_ok-check_build}
 
 -- nothing is refused
-module _ (c : Else-number-ne0) where
+module _ (c : In_ok-check_build) where
   abbrev samples : List ℤ
-  samples = c.before.before.args.samples.now
+  samples = c.args.samples.now
 
   abbrev top : ℕ
-  top = c.before.before.args.top
+  top = c.args.top
 
   abbrev given : List ℤ
-  given = c.before.before.args.store.now
+  given = c.args.store.now
 
-  no_number : build_number c.before.before.args.book.now (length samples) top (length given) ≡ 0
-  no_number = sym c.before.build_number-number.ensures ∙ c.if-number-ne0.false
+  no_number : build_number c.args.book.now (length samples) top (length given) ≡ 0
+  no_number = sym c.in_ok-check_build.ensures
 
-  fits : Fitting c.before.before.args.book.now (length samples) top (length given)
+  fits : Fitting c.args.book.now (length samples) top (length given)
   fits = fitting _ _ _ _ no_number
 
 -- the header is written
 module _ (c : After-write_header) where
-  abbrev e : Else-number-ne0
+  abbrev e : In_ok-check_build
   e = c.before.before
 
   abbrev headed : List ℤ
@@ -67,12 +67,12 @@ module _ (c : After-write_header) where
       ∙ ap (λ xs. overwrite xs (3 + top e) levels) headed_is
       ∙ overwrite-behind (given e) (header_of (length (samples e)) (top e)) levels (3 + top e) (length_header (length (samples e)) (top e))
 
-pub returns-then-number-ne0 : goal.returns-then-number-ne0
+pub returns-in_err-check_build : goal.returns-in_err-check_build
 unfolding build_answer
-returns-then-number-ne0 c =
-    let a = c.before.before.args in
-    let e = c.before.build_number-number.ensures in
-    simp (ne_eqb _ _ (λ z. c.if-number-ne0.true (e ∙ z))) (ap (λ n. built n a.store.now) e)
+returns-in_err-check_build c =
+    let a = c.args in
+    let h = handed c.from_residual.result c.in_err-check_build.field-0.0 c.from_residual.ensures.1 c.in_err-check_build.ensures in
+    simp (h.1) (ap (λ n. built n a.store.now) h.0)
 
 pub write_header-requires : goal.write_header-requires
 write_header-requires c =
@@ -83,29 +83,39 @@ pub level_taps-requires : goal.level_taps-requires
 level_taps-requires c = (fits c.before.before.before).book
 
 pub slice_bounds-write_levels-count : goal.slice_bounds-write_levels-count
-slice_bounds-write_levels-count c = room c.before.before
+slice_bounds-write_levels-count c = room c.before.before.before.before
 
 pub slice_bounds-write_levels-start : goal.slice_bounds-write_levels-start
-slice_bounds-write_levels-start c = room c.before.before
+slice_bounds-write_levels-start c = room c.before.before.before.before
+
+pub invariant_of-taps : goal.invariant_of-taps
+invariant_of-taps c =
+    let h = c.before.before in
+    let b = (e h).args.book.now in
+    let f = fits (e h) in
+    let a = accepted b f.book in
+    let taps = c.level_taps.ensures in
+    let count = ap length taps ∙ level_taps-length b a in
+    let reach = (sizes_bounded b a).reach_high in record {
+      some = omega (arith, count);
+      few = omega (arith, count, reach);
+      bounded = le_trans (le_of_eq (ap tap_sum taps)) (level_taps-sum b a);
+    }
 
 pub write_levels-requires : goal.write_levels-requires
 write_levels-requires c =
-    let h = c.before.before.before in
-    let b = (e h).before.before.args.book.now in
+    let h = c.before.before.before.before.before in
     let f = fits (e h) in
-    let a = accepted b f.book in
-    let taps = c.before.level_taps.ensures in
-    let count = ap length taps ∙ level_taps-length b a in
-    let reach = (sizes_bounded b a).reach_high in
-    let words = part_length (headed h) (3 + top (e h)) (length (headed h) - (3 + top (e h))) (omega (arith, room h)) in record { in_bounds = (omega (arith, count), omega (arith, count, reach), le_trans (le_of_eq (ap tap_sum taps)) (level_taps-sum b a)); samples_len_bound = (f.samples_high, f.top_high, omega (arith, words, headed_length h, f.room, store_length_is (length (samples (e h))) (top (e h)))) }
+    let words = part_length (headed h) (3 + top (e h)) (length (headed h) - (3 + top (e h))) (omega (arith, room h)) in
+    record { room = (f.samples_high, f.top_high, omega (arith, words, headed_length h, f.room, store_length_is (length (samples (e h))) (top (e h)))) }
 
 pub returns : goal.returns
 unfolding build_answer built_store
 returns c =
     let w = c.before in
-    let h = w.before.before.before.before in
+    let h = w.before.before.before.before.before.before in
     let a : ℕ = 3 + top (e h) in
     let k : ℕ = length (headed h) - a in
     let levels : List ℤ → List ℤ = λ taps. levels_of taps (samples (e h)) (top (e h)) in
-    let written = w.write_levels.ensures ∙ ap (λ taps. overwrite (part (headed h) a k) 0 (levels taps)) w.before.before.level_taps.ensures in
+    let written = w.write_levels.ensures ∙ ap (λ taps. overwrite (part (headed h) a k) 0 (levels taps)) w.before.before.before.before.level_taps.ensures in
     simp (no_number (e h)) (ap (λ xs. built 0 (take a (headed h) ++ (xs ++ drop k (drop a (headed h))))) written ∙ ap (built 0) (levels_behind h (levels _)))

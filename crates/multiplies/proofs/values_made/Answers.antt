@@ -7,6 +7,6 @@ pub returns-then-step-eq0 : goal.returns-then-step-eq0
 unfolding values_made
 returns-then-step-eq0 c = simp (eq-eqb _ _ c.if-step-eq0.true)
 
-pub returns : goal.returns
+pub returns-else-step-eq0 : goal.returns-else-step-eq0
 unfolding values_made
-returns c = simp (ne_eqb _ _ c.if-step-eq0.false)
+returns-else-step-eq0 c = simp (ne_eqb _ _ c.if-step-eq0.false)

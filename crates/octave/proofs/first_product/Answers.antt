@@ -1,8 +1,5 @@
 -- `octave::first_product` meets its contract: the sum over one tap is its product. Assumes nothing.
-use mathlib.Core.Path.{sym}
-use mathlib.Core.List.{List}
-use Prim.Native.Nat.{ℕ}
-use lib.IntN.{ℤ, ◌*ℤ◌}
+use Rattle.std.proofs.Common.{sym, ℕ, ◌^◌, ◌≤◌, nat_abs, ◌*ℤ◌, arith}
 use mir.Syntax.{w32, w64}
 use mir.Val.{SFits}
 use mir.Facts.{sfits_widen}
@@ -10,37 +7,16 @@ use Rattle.arith.specs.Lists.{at}
 use Rattle.arith.proofs.Bits.{reads}
 use Rattle.book.proofs.Around.{around_one, first_fits, word_fits, tap_fits}
 use Rattle.octave.proofs.first_product.Goals as goal
-use Rattle.octave.proofs.first_product.Goals.{Start}
-
-module _ (s : Start) where
-  abbrev level : List ℤ
-  level = s.args.level.now
-
-  abbrev taps : List ℤ
-  taps = s.args.taps.now
-
-  abbrev centre : ℕ
-  centre = s.args.centre
-
-  tap : SFits w32 (at taps 0)
-  tap = tap_fits taps s.requires.in_bounds.1 0 s.requires.in_bounds.0
-
-  word : SFits w32 (at level centre)
-  word = word_fits (at level centre) (s.requires.by_index centre)
-
-  product : SFits w64 (at taps 0 *ℤ at level centre)
-  product = first_fits taps s.requires.in_bounds.1 level centre s.requires.by_index s.requires.in_bounds.0
-
-pub overflow_cast-result : goal.overflow_cast-result
-overflow_cast-result c = let f = tap c.before in simp (reads, f) (sfits_widen tt f)
-
-pub overflow_cast-result-2 : goal.overflow_cast-result-2
-overflow_cast-result-2 c = let f = word c.before.before in simp (reads, f) (sfits_widen tt f)
-
-pub overflow_mul-result : goal.overflow_mul-result
-overflow_mul-result c = let s = c.before.before in simp (reads, tap s, word s) (product s)
 
 pub returns : goal.returns
 returns c =
-    let s = c.before.before in
-    simp (reads, tap s, word s, product s) (sym (around_one (taps s) (level s) (centre s)))
+    let words = c.args.plan.now.taps.words.now in
+    let level = c.args.plan.now.level.now in
+    let centre = c.args.centre in
+    let small : (k : ℕ) → nat_abs (at level k) ≤ 2 ^ 29 = λ k. omega (arith, c.args.plan.now.small k) in
+    let tap : SFits w32 (at words 0) = tap_fits words c.args.plan.now.taps.bounded 0 c.args.plan.now.taps.some in
+    let word : SFits w32 (at level centre) = word_fits (at level centre) (small centre) in
+    let product : SFits w64 (at words 0 *ℤ at level centre) = first_fits words c.args.plan.now.taps.bounded level centre small c.args.plan.now.taps.some in
+    let wide_tap : SFits w64 (at words 0) = sfits_widen tt tap in
+    let wide_word : SFits w64 (at level centre) = sfits_widen tt word in
+    simp (reads, tap, word, wide_tap, wide_word, product) (sym (around_one words level centre))

@@ -1,18 +1,8 @@
--- `octave::next_level` meets its contract. The loop's invariant: the store is as it was, with the first n words of the level above written
--- behind the level. Assumes nothing.
-use mathlib.Core.Path.{◌≡◌}
-use Prim.Native.Nat.{◌-◌, ◌≤◌}
-use lib.ListN.{length}
-use lib.Seq.{paste}
-use Rattle.arith.specs.Lists.{part}
-use Rattle.octave.specs.Octave.{next_level}
+-- `octave::next_level` meets its contract. The loop's invariant: the first words, and those of the blocks below i, are written. Assumes nothing.
+use Rattle.std.proofs.Common.{◌≡◌, ℕ, ◌+◌, ◌*◌, ◌<◌, length}
+use Rattle.arith.specs.Lists.{at}
+use Rattle.octave.specs.Octave.{level_word}
 use Rattle.octave.proofs.next_level.Given as goal
 
-abbrev pub invariant-loop-n : goal.invariant-loop-n
-invariant-loop-n l =
-    (l.n ≤ l.half)
-    × (l.store ≡ paste l.initial.store l.next (next_level l.taps (part l.initial.store l.start l.words)) l.n)
-    × ((length l.high ≡ 208) × (length l.low ≡ 208) × (length l.upper ≡ 64) × (length l.lower ≡ 64))
-
-abbrev pub decreases-loop-n : goal.decreases-loop-n
-decreases-loop-n l = l.half - l.n
+abbrev pub invariant-loop-i : goal.invariant-loop-i
+invariant-loop-i l = (k : ℕ) → k < l.front + 64 * l.i → k < length l.above → at l.above k ≡ level_word l.fn.taps.words.now l.fn.level k

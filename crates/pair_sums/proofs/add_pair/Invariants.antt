@@ -1,18 +1,12 @@
 -- `pair_sums::add_pair` meets its contract. The loop's invariant: below j, sum and products together have one pair more. Assumes nothing.
-use mathlib.Core.Path.{◌≡◌}
-use Prim.Native.Nat.{ℕ, ◌-◌, ◌≤◌, ◌<◌}
-use lib.IntN.{◌+ℤ◌}
-use lib.ListN.{length}
+use Rattle.std.proofs.Common.{◌≡◌, ℕ, ◌≤◌, ◌<◌, ◌+ℤ◌, length}
 use Rattle.arith.specs.Lists.{at}
 use Rattle.pair_sums.specs.Pairs.{pair_product}
 use Rattle.pair_sums.proofs.add_pair.Given as goal
 
 abbrev pub invariant-loop-j : goal.invariant-loop-j
-invariant-loop-j l = (l.j ≤ 16)
-    × (length l.sums ≡ 16)
+invariant-loop-j l =
+    (length l.sums ≡ 16)
     × (length l.last ≡ 16)
     × ((i : ℕ) → i < l.j → at l.sums i +ℤ at l.last i ≡ at l.initial.sums i +ℤ at l.initial.last i +ℤ pair_product l.rows l.words l.place l.k i)
     × ((i : ℕ) → l.j ≤ i → i < 16 → at l.sums i +ℤ at l.last i ≡ at l.initial.sums i +ℤ at l.initial.last i)
-
-abbrev pub decreases-loop-j : goal.decreases-loop-j
-decreases-loop-j l = 16 - l.j

@@ -52,7 +52,7 @@ module _ (c : After-result-4-1) where
   second = product-fits next_tap next_word next_tap_fits next_word_fits
 
   both : SFits w32 (tap *ℤ word +ℤ next_tap *ℤ next_word)
-  both = abs_fits w32 (tap *ℤ word +ℤ next_tap *ℤ next_word) (omega (arith, s.requires.i_bound_2))
+  both = abs_fits w32 (tap *ℤ word +ℤ next_tap *ℤ next_word) (omega (arith, s.requires.small))
 
 pub overflow_cast-result : goal.overflow_cast-result
 overflow_cast-result c = let f : SFits w16 (at c.before.args.rows.now c.before.args.r) = record { sfits = c.result-1.given } in simp (reads, f) (sfits_widen tt f)

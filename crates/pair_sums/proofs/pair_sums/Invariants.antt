@@ -1,15 +1,9 @@
 -- `pair_sums::pair_sums` meets its contract. The loop's invariant: sums and products of the last pair together are the sums over the pairs
 -- below k. Assumes nothing.
-use mathlib.Core.Path.{◌≡◌}
-use Prim.Native.Nat.{ℕ, ◌-◌, ◌≤◌, ◌<◌}
-use lib.IntN.{◌+ℤ◌}
-use lib.ListN.{length}
+use Rattle.std.proofs.Common.{◌≡◌, ℕ, ◌<◌, ◌+ℤ◌}
 use Rattle.arith.specs.Lists.{at}
 use Rattle.pair_sums.specs.Pairs.{pair_sum, place_of}
 use Rattle.pair_sums.proofs.pair_sums.Given as goal
 
 abbrev pub invariant-loop-k : goal.invariant-loop-k
-invariant-loop-k l = (l.k ≤ l.pairs) × (length l.sums ≡ 16) × (length l.last ≡ 16) × (l.place ≡ place_of l.a l.b l.k) × ((j : ℕ) → j < 16 → at l.sums j +ℤ at l.last j ≡ pair_sum l.rows l.words l.a l.b l.k j)
-
-abbrev pub decreases-loop-k : goal.decreases-loop-k
-decreases-loop-k l = l.pairs - l.k
+invariant-loop-k l = (l.place ≡ place_of l.a l.b l.k) × ((j : ℕ) → j < 16 → at l.sums j +ℤ at l.last j ≡ pair_sum l.rows l.words l.a l.b l.k j)

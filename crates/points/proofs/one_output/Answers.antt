@@ -2,6 +2,7 @@
 use mathlib.Core.Path.{◌≡◌, refl, ap, ◌∙◌}
 use mathlib.Core.List.{List, ◌∷◌, []}
 use Prim.Native.Nat.{ℕ, ◌+◌, ◌^◌, ◌≤◌, ◌<◌}
+use native.Mathlib.Nat.{le_trans}
 use native.Mathlib.Omega.{arith}
 use lib.IntN.{ℤ, pos}
 use lib.ListN.{length, set}
@@ -11,21 +12,21 @@ use Rattle.arith.specs.Lists.{overwrite}
 use Rattle.arith.proofs.Bits.{reads}
 use Rattle.arith.proofs.Lists.{paste_none, paste_more, paste_all}
 use Rattle.book.proofs.Accepted.{accepted, sizes_bounded}
-use Rattle.values.specs.Layout.{LayoutOf}
+use Rattle.store.specs.Store.{top_level}
 use Rattle.control.specs.declared.Control.{Control}
 use Rattle.control.specs.declared.Plan.{Plan}
 use Rattle.control.specs.Moves.{move_glide, point_plan, move_point, move_output}
-use Rattle.points.specs.Points.{point}
 use Rattle.control.specs.Valid.{Valid}
+use Rattle.control.proofs.Kept.{move_glide_valid, move_glide_top, move_point_valid, move_point_top}
 use Rattle.positions.specs.Runs.{control_after, first_plan, second_plan}
-use Rattle.points.specs.Runs.{run_points}
 use Rattle.multiplies.specs.Multiplies.{values_made}
 use Rattle.multiplies.specs.Inner.{run_values}
 use Rattle.multiplies.proofs.Multiplies.{made_high}
-use Rattle.control.proofs.Kept.{move_glide_valid, move_glide_top, move_point_valid, move_point_top}
+use Rattle.points.specs.Points.{point}
+use Rattle.points.specs.Runs.{run_points}
 use Rattle.points.proofs.Points.{plan_read}
+use Rattle.windows.specs.declared.source.Source.{Source}
 use Rattle.points.proofs.one_output.Goals as goal
-use Rattle.points.proofs.one_output.Goals.{After-glide_moved-one, After-one_point-first, After-one_point-second, After-point_moved-two, After-point_plan-p, After-point_plan-q, Start}
 
 -- the steps of the code, put together
 control_is : (F : ℕ) (c : Control) {one two last : Control} → one ≡ move_glide c → two ≡ move_point F one → last ≡ move_point F two → last ≡ control_after F c 1
@@ -54,114 +55,85 @@ two_written line x y h =
     ∙ paste_more line 126 words 1 (pos 0) x (omega arith) (omega arith) refl
     ∙ paste_all line 126 words 2 refl
 
-module _ (s : Start) where
-  abbrev b : List ℤ
-  b = s.args.book.now
-
+module _ (s : Source) where
   abbrev F : ℕ
-  F = s.args.layout.fade
+  F = s.layout.fade
 
   fade_small : F ≤ 256
-  fade_small = omega (arith, s.requires.0.sizes.fade, (sizes_bounded b (accepted b s.requires.0.sizes.book_accepted)).fade_high)
+  fade_small = let o = s.laid_out.sizes in omega (arith, o.fade, (sizes_bounded s.book.now (accepted s.book.now o.book_accepted)).fade_high)
 
   -- a valid control whose levels lie in the store
   abbrev Ready : Control → Type 0
-  Ready c = Valid F c × LayoutOf b s.args.store.now c.top s.args.layout
+  Ready c = (c.top ≤ top_level s.store.now) × Valid F c
 
   glide_ready : {c d : Control} → Ready c → d ≡ move_glide c → Ready d
-  glide_ready {c} r e = rw e (move_glide_valid r.0, rw (move_glide_top c) r.1)
+  glide_ready {c} r e = rw e (rw (move_glide_top c) r.0, move_glide_valid r.1)
 
   point_ready : {c d : Control} → Ready c → d ≡ move_point F c → Ready d
-  point_ready {c} r e = rw e (move_point_valid r.0, rw (move_point_top F c) r.1)
+  point_ready {c} r e = rw e (rw (move_point_top F c) r.0, move_point_valid r.1)
 
   plan_small : {c : Control} → Ready c → (c.fade.from ≤ 4) × (c.fade.step < 2 ^ 31)
-  plan_small r = (omega (arith, r.0.from_high, r.0.top_high), omega (arith, r.0.step_low, fade_small))
+  plan_small r = (omega (arith, r.1.from_high, r.1.top_high), omega (arith, r.1.step_low, fade_small))
 
   -- what a plan reads of the store
-  abbrev Read : Plan → Type 0
-  Read p =
-      (LayoutOf b s.args.store.now p.old s.args.layout × LayoutOf b s.args.store.now p.new s.args.layout)
-      × ((p.old ≤ 4) × (p.new ≤ 4) × (p.step ≤ F) × (p.position ≤ 2 ^ 60))
+  levels : {c : Control} {p : Plan} → Ready c → p ≡ point_plan c → (p.old ≤ top_level s.store.now) × (p.new ≤ top_level s.store.now)
+  levels {c} {p} r e = let q = plan_read r.1 p e in (le_trans q.0 r.0, le_trans q.1 r.0)
+
+  in_range : {c : Control} {p : Plan} → Ready c → p ≡ point_plan c → (p.step ≤ F) × (p.position ≤ 2 ^ 60)
+  in_range {c} {p} r e = let q = plan_read r.1 p e in (q.2, q.3)
 
 -- ---- the first point
-module _ (c : After-glide_moved-one) where
-  abbrev start : Start
-  start = c.before
-
-  abbrev control : Control
-  control = start.args.c
-
-  one_is : c.glide_moved-one.result ≡ move_glide control
-  one_is = c.glide_moved-one.ensures
-
-  one_ready : Ready start c.glide_moved-one.result
-  one_ready = glide_ready start (start.requires.1, start.requires.0) one_is
 
 pub point_plan-p-requires : goal.point_plan-p-requires
-point_plan-p-requires c = plan_small (start c) (one_ready c)
+point_plan-p-requires c = plan_small c.args.source.now (glide_ready c.args.source.now c.requires c.glide_moved-one.ensures)
 
--- what its point reads
-first_read : (c : After-point_plan-p) → Read (start c.before) c.point_plan-p.result
-first_read c = let r = one_ready c.before in plan_read r.0 r.1 c.point_plan-p.result c.point_plan-p.ensures
+pub one_point-first-requires-clause-levels : goal.one_point-first-requires-clause-levels
+one_point-first-requires-clause-levels c = levels c.args.source.now (glide_ready c.args.source.now c.requires c.glide_moved-one.ensures) c.point_plan-p.ensures
 
-pub one_point-first-requires : goal.one_point-first-requires
-one_point-first-requires c = let r = first_read c in (r.0.0, r.0.1, (start c.before).requires.3, r.1.0, r.1.1, r.1.2, r.1.3)
+pub one_point-first-requires-clause-in_range : goal.one_point-first-requires-clause-in_range
+one_point-first-requires-clause-in_range c = in_range c.args.source.now (glide_ready c.args.source.now c.requires c.glide_moved-one.ensures) c.point_plan-p.ensures
 
 pub point_moved-two-requires : goal.point_moved-two-requires
-point_moved-two-requires c = let o = c.before.before in plan_small (start o) (one_ready o)
+point_moved-two-requires c = plan_small c.args.source.now (glide_ready c.args.source.now c.requires c.glide_moved-one.ensures)
 
 -- ---- the second point
-module _ (c : After-point_moved-two) where
-  abbrev one : After-glide_moved-one
-  one = c.before.before.before
-
-  two_is : c.point_moved-two.result ≡ move_point (F (start one)) one.glide_moved-one.result
-  two_is = c.point_moved-two.ensures
-
-  two_ready : Ready (start one) c.point_moved-two.result
-  two_ready = point_ready (start one) (one_ready one) two_is
+two_ready : (s : Source) {c one two : Control} → Ready s c → one ≡ move_glide c → two ≡ move_point (F s) one → Ready s two
+two_ready s r e f = point_ready s (glide_ready s r e) f
 
 pub point_plan-q-requires : goal.point_plan-q-requires
-point_plan-q-requires c = plan_small (start (one c)) (two_ready c)
+point_plan-q-requires c = plan_small c.args.source.now (two_ready c.args.source.now c.requires c.glide_moved-one.ensures c.point_moved-two.ensures)
 
-second-read : (c : After-point_plan-q) → Read (start (one c.before)) c.point_plan-q.result
-second-read c = let r = two_ready c.before in plan_read r.0 r.1 c.point_plan-q.result c.point_plan-q.ensures
+pub one_point-second-requires-clause-levels : goal.one_point-second-requires-clause-levels
+one_point-second-requires-clause-levels c = levels c.args.source.now (two_ready c.args.source.now c.requires c.glide_moved-one.ensures c.point_moved-two.ensures) c.point_plan-q.ensures
 
-pub one_point-second-requires : goal.one_point-second-requires
-one_point-second-requires c = let r = second-read c in (r.0.0, r.0.1, (start (one c.before)).requires.3, r.1.0, r.1.1, r.1.2, r.1.3)
+pub one_point-second-requires-clause-in_range : goal.one_point-second-requires-clause-in_range
+one_point-second-requires-clause-in_range c = in_range c.args.source.now (two_ready c.args.source.now c.requires c.glide_moved-one.ensures c.point_moved-two.ensures) c.point_plan-q.ensures
+
+pub point_moved-requires : goal.point_moved-requires
+point_moved-requires c = plan_small c.args.source.now (two_ready c.args.source.now c.requires c.glide_moved-one.ensures c.point_moved-two.ensures)
 
 -- ---- both together
-first_fits : (c : After-one_point-first) → SFits w64 c.one_point-first.result
-first_fits c = record { sfits = c.one_point-first.type_inv }
-
-second_fits : (c : After-one_point-second) → SFits w64 c.one_point-second.result
-second_fits c = record { sfits = c.one_point-second.type_inv }
-
-pub point_moved-control-requires : goal.point_moved-control-requires
-point_moved-control-requires c = let t = c.before.before in plan_small (start (one t)) (two_ready t)
-
-pub overflow_add-values : goal.overflow_add-values
-overflow_add-values c =
-    let first : c.before.values_made.result ≤ 2 = rw c.before.values_made.ensures (made_high _) in
+pub overflow_add-result : goal.overflow_add-result
+overflow_add-result c =
+    let first : c.values_made.result ≤ 2 = rw c.values_made.ensures (made_high _) in
     let second : c.values_made-2.result ≤ 2 = rw c.values_made-2.ensures (made_high _) in
     omega (arith, first, second)
 
-pub returns : goal.returns
-returns c =
-    let m = c.before.before in
-    let p₂ = m.before in
-    let q₂ = p₂.before in
-    let t = q₂.before in
-    let p₁ = t.before in
-    let q₁ = p₁.before in
-    let o = one t in
-    let s = start o in
-    let line = s.args.line.now in
-    let make = point (b s) s.args.store.now in
-    let written = two_written line p₁.one_point-first.result p₂.one_point-second.result (omega arith) in
-    let points = points_are make (F s) s.args.c (one_is o) q₁.point_plan-p.ensures p₁.one_point-first.ensures (two_is t) q₂.point_plan-q.ensures p₂.one_point-second.ensures in (
+pub returns-clause-made : goal.returns-clause-made
+returns-clause-made c =
+    let s = c.args.source.now in (
       refl,
-      control_is (F s) s.args.c (one_is o) (two_is t) m.point_moved-control.ensures,
-      values_are (F s) s.args.c (one_is o) q₁.point_plan-p.ensures c.before.values_made.ensures (two_is t) q₂.point_plan-q.ensures c.values_made-2.ensures,
-      simp (reads, first_fits p₁, second_fits p₂) (written ∙ ap (overwrite line 126) points),
+      control_is (F s) c.args.c c.glide_moved-one.ensures c.point_moved-two.ensures c.point_moved.ensures,
+      values_are (F s) c.args.c c.glide_moved-one.ensures c.point_plan-p.ensures c.values_made.ensures c.point_moved-two.ensures c.point_plan-q.ensures c.values_made-2.ensures,
     )
+
+pub returns-clause-points : goal.returns-clause-points
+returns-clause-points c =
+    let s = c.args.source.now in
+    let line = c.args.line.now in
+    let first : SFits w64 c.one_point-first.result = record { sfits = c.one_point-first.type_inv } in
+    let second : SFits w64 c.one_point-second.result = record { sfits = c.one_point-second.type_inv } in
+    let make = point s.book.now s.store.now in
+    let written = two_written line c.one_point-first.result c.one_point-second.result (omega arith) in
+    let points = points_are make (F s) c.args.c c.glide_moved-one.ensures c.point_plan-p.ensures c.one_point-first.ensures c.point_moved-two.ensures c.point_plan-q.ensures c.one_point-second.ensures in
+    simp (reads, first, second) (written ∙ ap (overwrite line 126) points)

@@ -14,9 +14,9 @@ pub returns-then-rate-lt8388608 : goal.returns-then-rate-lt8388608
 unfolding rate_wrong
 returns-then-rate-lt8388608 c = search tests
 
-pub returns : goal.returns
+pub returns-else-rate-lt8388608 : goal.returns-else-rate-lt8388608
 unfolding rate_wrong
-returns c =
+returns-else-rate-lt8388608 c =
     let a = c.args in
     let n = 28 + a.top in
     let room : 1 + n ≤ 64 = omega arith in

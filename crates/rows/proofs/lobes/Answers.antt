@@ -1,58 +1,76 @@
--- `rows::lobes` meets its contract. The loop's invariant: each row passed has a positive coefficient. Assumes nothing.
-use mathlib.Core.Path.{◌≡◌}
-use mathlib.Core.List.{List}
+-- `rows::lobes` meets its contract: each row that comes is the front of those that are left. Assumes nothing.
+use mathlib.Core.Path.{◌≡◌, sym, ap, ◌∙◌}
+use mathlib.Core.List.{List, [], ◌∷◌, ◌++◌}
 use mathlib.Core.Logic.{◌⊎◌, inl, inr}
 use Prim.Native.Nat.{ℕ, ◌+◌, ◌-◌, ◌*◌, ◌/◌, ◌≤◌, ◌<◌}
+use native.Mathlib.Decide.{ℕ_discrete, dec_le}
 use native.Mathlib.Nat.{mul-le-mul_right}
-use native.Mathlib.Decide.{ℕ_discrete}
 use native.Mathlib.Omega.{arith}
 use lib.IntN.{ℤ, pos}
-use lib.ListN.{length}
+use lib.ListN.{length, get_or-append}
 use lib.Signed.{◌≤ℤ◌}
+use Rattle.std.proofs.lemmas.List.{get_or-append-add}
+use Rattle.std.proofs.Math.ListN.{length-append}
 use Rattle.arith.specs.Lists.{at}
 use Rattle.rows.specs.Rows.{Positive}
 use Rattle.rows.proofs.lobes.Goals as goal
-use Rattle.rows.proofs.lobes.Goals.{In-loop-q, Start}
 
-pub loop-q-init : goal.loop-q-init
-loop-q-init c = (omega arith, omega arith, λ i h. absurd (omega arith))
+-- of n rows of W words m are passed, and the rest is the next row and what follows it
+module _ (table rest row later : List ℤ) (W m n : ℕ) (cut : rest ≡ row ++ later) (wide : length row ≡ W) (left : length rest + m * W ≡ n * W)
+    (same : (k : ℕ) → k < length rest → at rest k ≡ at table (m * W + k)) where
+  whole : length rest ≡ W + length later
+  whole = ap length cut ∙ omega (arith, length-append row later)
 
--- one row more
-one_more : (table : List ℤ) (W q m : ℕ) {j : ℕ} → j ≡ q * W + m → 1 ≤ m → m < W → (pos 1 ≤ℤ at table (j - 1)) ⊎ (pos 1 ≤ℤ at table j) → ((i : ℕ) → i < q → Positive table (i * W) W)
-    → (i : ℕ) → i < q + 1 → Positive table (i * W) W
-one_more table W q m {j} e low high found all i h = go (ℕ_discrete i q)
+  left_later : {p : ℕ} → p ≡ m + 1 → length later + p * W ≡ n * W
+  left_later e = rw e (omega (arith, whole, left))
+
+  same_later : {p : ℕ} → p ≡ m + 1 → (k : ℕ) → k < length later → at later k ≡ at table (p * W + k)
+  same_later {p} e k h =
+      let j : m * W + (length row + k) ≡ p * W + k = rw e (omega (arith, wide)) in
+      sym (get_or-append-add row later k (pos 0)) ∙ ap (λ xs. at xs (length row + k)) (sym cut) ∙ same (length row + k) (omega (arith, whole, wide)) ∙ ap (at table) j
+
+  at_row : (k : ℕ) → k < W → at row k ≡ at table (m * W + k)
+  at_row k h = sym (get_or-append row later (pos 0) k (omega (arith, wide))) ∙ ap (λ xs. at xs k) (sym cut) ∙ same k (omega (arith, whole))
+
+  one_more : (j : ℕ) → 1 ≤ j → j < W → (pos 1 ≤ℤ at row (j - 1)) ⊎ (pos 1 ≤ℤ at row j) → ((i : ℕ) → i < m → Positive table (i * W) W)
+      → {p : ℕ} → p ≡ m + 1 → (i : ℕ) → i < p → Positive table (i * W) W
+  one_more j low high found all e i h = go (ℕ_discrete i m)
+    where
+      here : (pos 1 ≤ℤ at row (j - 1)) ⊎ (pos 1 ≤ℤ at row j) → Positive table (m * W) W
+      here (inl l) = record { place = j - 1; inside = omega arith; above = rw (at_row (j - 1) (omega arith)) at l }
+      here (inr l) = record { place = j; inside = high; above = rw (at_row j high) at l }
+
+      go : Dec (i ≡ m) → Positive table (i * W) W
+      go (yes d) = rw d (here found)
+      go (no x) = all i (omega arith)
+
+-- where less than a row is left, all are passed
+passed : (W m n r : ℕ) → r + m * W ≡ n * W → r < W → n ≤ m
+passed W m n r e l = go (dec_le n m)
   where
-    here : (pos 1 ≤ℤ at table (j - 1)) ⊎ (pos 1 ≤ℤ at table j) → Positive table (q * W) W
-    here (inl l) = let d : j - 1 ≡ q * W + (m - 1) = omega arith in record { place = m - 1; inside = omega arith; above = rw d at l }
-    here (inr l) = record { place = m; inside = high; above = rw e at l }
+    go : Dec (n ≤ m) → n ≤ m
+    go (yes h) = h
+    go (no h) = let more : m + 1 ≤ n = omega arith in omega (arith, mul-le-mul_right W more)
 
-    go : Dec (i ≡ q) → Positive table (i * W) W
-    go (yes d) = rw d (here found)
-    go (no n) = all i (omega arith)
-
--- the middle of a turn's row lies in the table
-module _ (c : In-loop-q) where
-  abbrev s : Start
-  s = c.before.before
-
-  row_room : c.before.loop-q.q * s.args.width + s.args.width ≤ length s.args.table.now
-  row_room = omega (arith, mul-le-mul_right s.args.width c.loop-q-test.true)
-
-pub lobe-requires : goal.lobe-requires
-lobe-requires c = omega (arith, row_room c)
-
-pub returns-then-not-lobe : goal.returns-then-not-lobe
-returns-then-not-lobe c e = let z : ◌≡◌ {A = ℕ} 0 1 = cc in absurd (omega arith)
-
-pub overflow_add-middle : goal.overflow_add-middle
-overflow_add-middle c = omega (arith, row_room c.before.before)
-
-pub loop-q-preserved : goal.loop-q-preserved
-loop-q-preserved c =
-    let l = c.before.before.before in
-    let a = l.before.args in
-    let i = l.loop-q.invariant in
-    (omega arith, omega arith, one_more a.table.now a.width l.loop-q.q (a.taps / 2) i.1 (omega arith) (omega arith) (c.before.lobe.ensures c.if-not-lobe.false) i.2)
+pub loop-row-preserved : goal.loop-row-preserved
+loop-row-preserved c =
+    let table = c.args.table.now in
+    let W = c.args.width in
+    let i = c.loop-row.invariant in
+    let row = c.in-Some.row.now in
+    let later = c.next.new.self.rest.now in
+    let rest = c.loop-row.row-iterator.rest.now in
+    let m = length c.loop-row.yielded in
+    let s = c.in-Some.ensures.steps in
+    let wide : length row ≡ W = s.1.1 ∙ i.0 in
+    let more = length-append c.loop-row.yielded (c.in-Some.row ∷ []) in (
+      s.0 ∙ i.0,
+      left_later table rest row later W m c.args.count s.1.0 wide i.1 i.2 more,
+      same_later table rest row later W m c.args.count s.1.0 wide i.1 i.2 more,
+      one_more table rest row later W m c.args.count s.1.0 wide i.1 i.2 (c.args.taps / 2) (omega (arith, c.requires)) (omega (arith, c.requires)) (c.lobe.ensures c.if-not-lobe.false) i.3 more,
+    )
 
 pub returns : goal.returns
-returns c e q h = c.before.loop-q.invariant.2 q (omega arith)
+returns c e q h =
+    let i = c.loop-row.invariant in
+    i.3 q (omega (arith, passed c.args.width (length c.loop-row.yielded) c.args.count (length c.loop-row.row-iterator.rest.now) i.1 (omega (arith, i.0, c.in-None.ensures.steps.1.0))))

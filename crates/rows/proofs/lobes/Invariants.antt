@@ -1,11 +1,16 @@
--- `rows::lobes` meets its contract. The loop's invariant: each row passed has a positive coefficient. Assumes nothing.
+-- `rows::lobes` meets its contract. The loop's invariant: the rows that are left begin behind those passed, each of which has a positive coefficient.
+-- Assumes nothing.
 use mathlib.Core.Path.{◌≡◌}
-use Prim.Native.Nat.{ℕ, ◌+◌, ◌-◌, ◌*◌, ◌/◌, ◌≤◌, ◌<◌}
+use Prim.Native.Nat.{ℕ, ◌+◌, ◌*◌, ◌<◌}
+use lib.ListN.{length}
+use Rattle.arith.specs.Lists.{at}
 use Rattle.rows.specs.Rows.{Positive}
 use Rattle.rows.proofs.lobes.Given as goal
 
-abbrev pub invariant-loop-q : goal.invariant-loop-q
-invariant-loop-q l = (l.q ≤ l.count) × (l.middle ≡ l.q * l.width + l.taps / 2) × ((i : ℕ) → i < l.q → Positive l.table (i * l.width) l.width)
-
-abbrev pub decreases-loop-q : goal.decreases-loop-q
-decreases-loop-q l = l.count - l.q
+abbrev pub invariant-loop-row : goal.invariant-loop-row
+invariant-loop-row l =
+    let m = length l.yielded in
+    (l.row-iterator.size ≡ l.width)
+    × (length l.row-iterator.rest.now + m * l.width ≡ l.count * l.width)
+    × ((k : ℕ) → k < length l.row-iterator.rest.now → at l.row-iterator.rest.now k ≡ at l.table (m * l.width + k))
+    × ((i : ℕ) → i < m → Positive l.table (i * l.width) l.width)

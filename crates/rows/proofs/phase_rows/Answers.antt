@@ -11,17 +11,17 @@ use Rattle.rows.proofs.phase_rows.Goals.{In_default, Start}
 -- the arm for n taps
 module _ (s : Start) {n : ℕ} (e : s.args.taps ≡ n) where
   width_is : s.args.width ≡ row_width n
-  width_is = s.requires.2 ∙ ap row_width e
+  width_is = s.requires.taps.2 ∙ ap row_width e
 
   fit : PhasesFit s.args.book.now n (row_width n) s.args.phases s.args.table.now
-  fit = rw (← e, ← s.requires.2) s.requires.3
+  fit = rw (← e, ← s.requires.taps.2) s.requires.fit
 
   rows : {table : List ℤ} → PhasesOf (narrowed s.args.book.now) n (row_width n) s.args.phases table → PhasesOf (narrowed s.args.book.now) s.args.taps s.args.width s.args.phases table
   rows p = rw (width_is, e) p
 
 -- past the other arms 24 is left
 last : (c : In_default) → c.before.args.taps ≡ 24
-last c = omega (arith, c.requires.3.few)
+last c = omega (arith, c.requires.fit.few)
 
 pub rows_by-requires : goal.rows_by-requires
 unfolding row_width
@@ -29,7 +29,7 @@ rows_by-requires c = fit c.before.before c.before.in-2.is
 
 pub rows_of_four-requires : goal.rows_of_four-requires
 unfolding row_width
-rows_of_four-requires c = (c.before.before.requires.4, fit c.before.before c.before.in-4.is)
+rows_of_four-requires c = fit c.before.before c.before.in-4.is
 
 pub rows_by-requires-in-6 : goal.rows_by-requires-in-6
 unfolding row_width

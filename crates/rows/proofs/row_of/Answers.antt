@@ -1,6 +1,5 @@
 -- `rows::row_of` meets its contract. The loop's invariant: the words passed are written. Assumes nothing.
-use mathlib.Core.Path.{refl}
-use Prim.Native.Nat.{◌+◌}
+use Rattle.std.proofs.Common.{rules}
 use native.Mathlib.Omega.{arith}
 use lib.IntN.{pos, negsuc}
 use lib.ListN.{length-set}
@@ -12,21 +11,12 @@ use Rattle.arith.proofs.Bits.{reads}
 use Rattle.arith.proofs.Lists.{filled_more}
 use Rattle.rows.proofs.row_of.Goals as goal
 
-pub loop-k-init : goal.loop-k-init
-loop-k-init c = (omega arith, refl, λ j h. absurd (omega arith))
-
 pub loop-k-preserved : goal.loop-k-preserved
-loop-k-preserved c =
-    let t = c.before.before.before in
-    let inv = t.loop-k.invariant in
-    let a = t.before.args in
-    let given : SFits w32 (at a.book.now (a.from + t.loop-k.k)) = record { sfits = c.before.narrow-arg-1.given } in
-    let word : SFits w16 c.narrow.result = record { sfits = c.narrow.type_inv } in (
-      omega arith,
-      simp length-set inv.1,
-      simp (reads, word)
-          (filled_more (pos 0) (λ j. limit (negsuc 32767) (pos 32767) (at a.book.now (a.from + j))) t.loop-k.row t.loop-k.k (omega arith) inv.2 (simp (reads, given) at c.narrow.ensures)),
+loop-k-preserved g c =
+    let k = c.loop-k.k in
+    let words = c.args.words.now in
+    let given : SFits w32 (at words k) = search rules in
+    let word : SFits w16 c.narrow.result = search rules in (
+      simp length-set c.loop-k.invariant.0,
+      simp (reads, word) (filled_more (pos 0) (λ j. limit (negsuc 32767) (pos 32767) (at words j)) c.loop-k.row k (omega (arith, c.loop-k.invariant.0)) c.loop-k.invariant.1 (simp (reads, given) at c.narrow.ensures)),
     )
-
-pub returns : goal.returns
-returns c k h = c.before.loop-k.invariant.2 k (omega arith)

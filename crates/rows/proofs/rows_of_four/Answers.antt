@@ -11,7 +11,7 @@ use Rattle.rows.proofs.ImpulseRows.{halves}
 use Rattle.rows.proofs.rows_of_four.Goals as goal
 
 pub rows_by-requires : goal.rows_by-requires
-rows_by-requires c = c.before.before.requires.1
+rows_by-requires c = c.before.before.requires
 
 pub returns-then-phases-ne0 : goal.returns-then-phases-ne0
 returns-then-phases-ne0 c = c.before.rows_by.ensures
@@ -21,16 +21,17 @@ rows_by-requires-2 c =
     let s = c.before.before in
     record {
       few = omega arith;
+      phases_few = omega (arith, s.requires.phases_few);
       wide = omega arith;
-      book_room = omega (arith, s.requires.1.book_room);
-      table_room = omega arith;
+      book_room = omega (arith, s.requires.book_room);
+      table_room = omega (arith, s.requires.phases_few);
       zeros = zeros_every (λ x. x ≡ pos 0) refl 512;
     }
 
 pub spread-requires : goal.spread-requires
 spread-requires c =
     let s = c.before.before.before.before.before.before in
-    (omega arith, s.requires.1.table_room, s.requires.0, s.requires.1.zeros)
+    record { room = (omega (arith, s.requires.phases_few), s.requires.table_room); zeros = s.requires.zeros }
 
 -- m rows of four words, where they are the halves of h rows of eight
 both : {source : ℕ → ℤ} {h m : ℕ} {words table : List ℤ} → PhasesOf source 8 8 h words → PhasesOf (at words) 4 8 m table → 2 * h ≡ m → PhasesOf source 4 8 m table

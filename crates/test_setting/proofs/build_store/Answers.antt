@@ -8,7 +8,7 @@ use lib.Seq.{drop-length}
 use Rattle.arith.specs.Sum.{total}
 use Rattle.arith.specs.Tests.{eq_z, every}
 use Rattle.arith.proofs.Lists.{length-tabulate}
-use Rattle.book.specs.Number.{refuse, ◌otherwise◌}
+use Rattle.refusal.specs.Number.{refuse, ◌otherwise◌}
 use Rattle.book.specs.Book.{sizes_of, differences_at, level_taps_at, decimation_taps_at, book_length, impulse_word, impulse, difference, level_taps, decimation_taps}
 use Rattle.book.specs.Check.{power_of_two, sizes_in_range, words_in_range, coefficients_in_range, differences_right, phase_sum, tap_sum, sums_in_range, book_number}
 use Rattle.octave.specs.Octave.{half_length}
@@ -39,13 +39,12 @@ store_filled given e =
     let end : store_length (length test_recording) 2 ≡ length given = simp (length_recording, length_store, e) in
     accepted_store test_book test_recording given 2 none ∙ simp (end, drop-length, append-nil)
 
-pub returns : goal.returns
+pub returns-clause-state : goal.returns-clause-state
+unfolding draw_answer
+returns-clause-state c = ap (λ d. d.state) (c.draw-state.ensures ∙ ap (draw_answer 0) c.told-samples)
+
+pub returns-clause-built : goal.returns-clause-built
 unfolding draw_answer test_recording
-returns c =
-    let drawing = c.before.before.before.before.before.before in
-    let start = drawing.before.before in
-    let drawn-is = drawing.draw-state.ensures ∙ ap (draw_answer 0) start.requires.0 in
-    let samples-are = ap (λ d. d.samples) drawn-is in (
-      ap (λ d. d.state) drawn-is,
-      ap (λ a. a.store) c.before.build.ensures ∙ ap (λ xs. (build_answer test_book xs 2 start.args.store.now).store) samples-are ∙ store_filled start.args.store.now start.requires.1,
-    )
+returns-clause-built c =
+    let drawn = ap (λ d. d.samples) (c.draw-state.ensures ∙ ap (draw_answer 0) c.told-samples) in
+    ap (λ a. a.store) c.build.ensures ∙ ap (λ xs. (build_answer test_book xs 2 c.args.store.now).store) drawn ∙ store_filled c.args.store.now c.told-store

@@ -1,26 +1,21 @@
 -- `tone_builder::tone_store_words` meets its contract. Assumes nothing.
-use Prim.Native.Nat.{◌≤◌}
-use native.Mathlib.Omega.{arith}
-use Rattle.store.proofs.Ranges.{ranges}
+use Rattle.std.proofs.Common.{pos}
+use Rattle.arith.proofs.Tests.{&&-left, &&-right, test_fails, test_holds}
+use Rattle.store.specs.Sizes.{samples_in_range, top_in_range}
+use Rattle.store.proofs.Ranges.{samples_high, top_high}
 use Rattle.tone_builder.specs.Store.{store_words}
 use Rattle.tone_builder.proofs.tone_store_words.Goals as goal
 
-pub returns-then-sample_count-lt1 : goal.returns-then-sample_count-lt1
+pub returns-then-not-in_range : goal.returns-then-not-in_range
 unfolding store_words
-returns-then-sample_count-lt1 c = search ranges
+returns-then-not-in_range c = simp (test_fails c.in_range.ensures c.if-not-in_range.true)
 
-pub returns-then-sample_count-gt1048576 : goal.returns-then-sample_count-gt1048576
-unfolding store_words
-returns-then-sample_count-gt1048576 c = search ranges
-
-pub returns-then-top-gt4 : goal.returns-then-top-gt4
-unfolding store_words
-returns-then-top-gt4 c = search ranges
+pub store_length-requires : goal.store_length-requires
+store_length-requires c =
+    let a = c.args in
+    let sized = test_holds c.in_range.ensures c.if-not-in_range.false in
+    (samples_high (pos a.sample_count) (&&-left _ (top_in_range (pos a.top)) sized), top_high (pos a.top) (&&-right (samples_in_range (pos a.sample_count)) _ sized))
 
 pub returns : goal.returns
 unfolding store_words
-returns c =
-    let least : 1 ≤ c.args.sample_count = omega arith in
-    let most : c.args.sample_count ≤ 1048576 = omega arith in
-    let top : c.args.top ≤ 4 = omega arith in
-    search (ranges, least, most, top, c.store_length.ensures)
+returns c = simp (test_holds c.in_range.ensures c.if-not-in_range.false) c.store_length.ensures

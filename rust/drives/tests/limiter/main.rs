@@ -26,44 +26,39 @@ fn the_limit_has_no_branch() {
 }
 
 /// The way of the outputs: a function, a name in it, and under them all statements
-/// that have this name. From the archive's call on the output words are handed on
-/// whole, until `write_sample` stores one; what it stores is a sum's, which nothing but
-/// `sample` rounds and limits.
+/// that have this name. From the archive's call on the output words are handed on,
+/// whole or by the run, until `write_samples` stores them; what it stores are sums',
+/// which nothing but `sample` rounds and limits.
 const WAY: &str = "
 tone::tone_play out
-    marshal::play(voice, book, store, out, multiplies)
+    let played = marshal::play(voice, book, store, out)
 marshal::play out
-    let a = voice_of(voice).play(book, store, out)
+    let played = voice_of(voice).play(book, store, out)?
 player::calls::play out
-    fill(self, book, store, out)
+    Ok(fill(self, book, store, out))
 player::outputs::fill out
-    return fill_by(&table, v, book, store, layout, out)
-    fill_by(&table, v, book, store, layout, out)
-player::outputs::fill_by out
-    write_outputs(book, decimation, &line, made, i, out)
+    return fill_within::<1048>(&v, book, store, out)
+    fill_within::<4136>(&v, book, store, out)
+player::outputs::fill_within out
+    fill_from(&source, v, out)
+player::outputs::fill_from out
+    decimation.write_outputs(&line, &mut out[i..end])
+player::outputs::fill_from decimation
+    let decimation = Taps::of(source.book)
+    decimation.write_outputs(&line, &mut out[i..end])
+    let reach = decimation.taps.len() - 1
 decimation::write_outputs out
-    let first = write_fours(line, taps, step, count, start, out)
-    write_ones(line, taps, step, first, count, start, out)
-decimation::write_fours out
-    write_sample(sums.d, place, out)
-    write_sample(sums.c, place + 1, out)
-    write_sample(sums.b, place + 2, out)
-    write_sample(sums.a, place + 3, out)
-decimation::write_fours sums
-    let sums = four_sums(line, taps, step, 120 - 2 * i + reach)
-    write_sample(sums.d, place, out)
-    write_sample(sums.c, place + 1, out)
-    write_sample(sums.b, place + 2, out)
-    write_sample(sums.a, place + 3, out)
-decimation::write_ones out
-    write_sample(one_sum(line, taps, step, 126 - 2 * i + reach), start + i, out,)
-decimation::write_sample out
-    out[place] = x
-decimation::write_sample x
-    let x = sample(sum)
-    out[place] = x
-decimation::write_sample sum
-    let x = sample(sum)
+    self.write_lanes::<4>(line, 0, out)
+    self.write_lanes::<1>(line, fours, &mut out[fours..])
+decimation::write_lanes out
+    write_samples(&sums, &mut out[i..i + LANES])
+decimation::write_lanes sums
+    let sums = self.sums::<LANES>(line, newest - 2 * (first + i))
+    write_samples(&sums, &mut out[i..i + LANES])
+decimation::write_samples out
+    out[j] = sample(sums[j])
+decimation::write_samples sums
+    out[j] = sample(sums[j])
 decimation::sample sum
     arith::limit16(arith::near(sum, 2097152) as i32)
 ";
@@ -93,57 +88,68 @@ fn the_limit_is_the_last_step() {
     let last = set(&["arith::near", "arith::limit16"]);
     assert_eq!(product.called("decimation", "sample"), last);
     assert_eq!(
-        product.called("decimation", "write_sample"),
+        product.called("decimation", "write_samples"),
         set(&["decimation::sample"])
     );
     assert_eq!(strays(&product), [""; 0]);
     assert!(product.imports("player::calls", "crate::outputs::fill"));
-    assert!(product.imports("player::outputs", "decimation::write_outputs"));
+    assert!(product.imports("player::outputs", "decimation::Taps"));
 }
 
 /// An output that is stored or limited elsewhere, or not limited, is seen: each edit of
 /// decimation, and where it leaves the way.
 #[test]
 fn other_ways_are_seen() {
-    let fours = [
-        "decimation::write_fours out",
-        "decimation::write_fours sums",
+    let lanes = [
+        "decimation::write_lanes out",
+        "decimation::write_lanes sums",
     ];
-    let ones = ["decimation::write_ones out"];
+    let samples = [
+        "decimation::write_samples out",
+        "decimation::write_samples sums",
+    ];
     let path = crates().join("decimation/src/lib.rt");
     let text = fs::read_to_string(path).expect("the source of decimation");
     let edits: [(&str, &str, &[&str]); 9] = [
         (
-            "write_sample(sums.c, place + 1, out);",
-            "out[place + 1] = sample(sums.c);",
-            &fours,
+            "write_samples(&sums, &mut out[i..i + LANES]);",
+            "out[i] = sample(sums[0]);",
+            &lanes,
         ),
         (
-            "write_sample(sums.b, place + 2, out);",
-            "write_sample(within(sums.b), place + 2, out);",
-            &fours,
+            "write_samples(&sums, &mut out[i..i + LANES]);",
+            "write_samples(&within(sums), &mut out[i..i + LANES]);",
+            &lanes,
         ),
         (
-            "let place = start + i;",
-            "let place = start + i; sums.a = within(sums.a);",
-            &fours[1..],
+            "write_samples(&sums, &mut out[i..i + LANES]);",
+            "let sums = within(sums); write_samples(&sums, &mut out[i..i + LANES]);",
+            &lanes[1..],
         ),
-        ("i += 1;", "out[start + i] = 0; i += 1;", &ones),
-        ("one_sum(line, taps, step, 126", "within(126", &ones),
         (
-            "write_ones(line, taps, step, first, count, start, out);",
+            "let i = LANES * turn;",
+            "let i = LANES * turn; out[i] = 0;",
+            &lanes[..1],
+        ),
+        (
+            "self.sums::<LANES>(line, newest",
+            "within(newest",
+            &lanes[1..],
+        ),
+        (
+            "self.write_lanes::<1>(line, fours, &mut out[fours..]);",
             "let words = out;",
             &["decimation::write_outputs out"],
         ),
         (
-            "let x = sample(sum);",
-            "let x = arith::near(sum, 2097152) as i16;",
-            &["decimation::write_sample x", "decimation::write_sample sum"],
+            "out[j] = sample(sums[j]);",
+            "out[j] = arith::near(sums[j], 2097152) as i16;",
+            &samples,
         ),
         (
-            "out[place] = x;",
-            "out[place] += x;",
-            &["decimation::write_sample out", "decimation::write_sample x"],
+            "out[j] = sample(sums[j]);",
+            "out[j] += sample(sums[j]);",
+            &samples,
         ),
         (
             "arith::limit16(arith::near(sum, 2097152) as i32)",
@@ -163,12 +169,12 @@ fn other_ways_are_seen() {
 fn branches_of_the_product_are_seen() {
     let product = product();
     assert_eq!(
-        product.branches("arith", "near"),
-        set(&["arith::excess: if"])
+        product.branches("arith", "floor_div"),
+        set(&["arith::floor_div: if", "arith::floor_div: else"])
     );
-    let step = product.branches("decimation", "tap_step");
-    for branch in ["decimation::tap_step: if", "book::half_band: while"] {
-        assert!(step.contains(branch));
+    let fade = product.branches("arith", "near_by");
+    for branch in ["arith::near_by: if", "arith::floor_div: if"] {
+        assert!(fade.contains(branch));
     }
 }
 

@@ -1,134 +1,172 @@
--- `book::columns::impulses_settled` meets its contract. The loop's invariant: no bound is negative, and the columns passed bound their words of
--- all rows. Assumes nothing.
-use Rattle.std.proofs.Common.{◌≡◌, ℕ, ◌+◌, ◌-◌, ◌*◌, ◌/◌, ◌%◌, ◌<◌, ◌≤◌, true, leb, List, length, ℤ, pos, ◌≤ℤ◌, refl, ap, ◌∙◌, ap₂, arith, leb-true}
+-- `book::columns::impulses_settled` meets its contract. Assumes nothing.
+use Rattle.std.proofs.Common.{◌≡◌, ℕ, ◌+◌, ◌-◌, ◌*◌, ◌/◌, ◌%◌, ◌<◌, ◌≤◌, true, leb, List, length, ℤ, pos, ◌-ℤ◌, ◌≤ℤ◌, mul-le-mul_right, length-take, length-drop, refl, ap, ◌∙◌, arith, leb-true}
 use native.Mathlib.Decide.{dec_lt, ℕ_discrete}
 use lib.Signed.{≤ℤ_refl}
-use Rattle.arith.specs.Lists.{at}
-use Rattle.arith.specs.Sum.{total}
 use Rattle.arith.proofs.Integers.{≤ℤ-trans}
+use Rattle.arith.specs.Lists.{at, part}
+use Rattle.arith.proofs.Lists.{at_part}
 use Rattle.arith.proofs.Parts.{zeros_every}
+use Rattle.book.specs.declared.places.Parts.{Parts}
+use Rattle.book.specs.Columns.{Bounds, Passed, Raised, tap_bound}
+use Rattle.book.proofs.ColumnBounds.{passed_more, section_in, section_raised, impulses_settled, differences_settled}
+use Rattle.arith.specs.Sum.{total}
+use Rattle.arith.specs.Tests.{eq_z, every}
 use Rattle.book.specs.Book.{sizes_of}
-use Rattle.book.specs.Columns.{Bounds, Passed, tap_bound}
-use Rattle.book.proofs.Bounds.{Bounded, bounded, array_high, length_is}
-use Rattle.book.proofs.ColumnBounds.{passed_more, impulses_settled, differences_settled}
+use Rattle.book.specs.Check.{words_in_range, phase_sum}
+use Rattle.book.specs.Inner.{impulses, differences}
+use Rattle.book.proofs.Sections.{impulse_at, difference_at, first_words}
+use Rattle.book.proofs.Whole.{array, room, parts_bounded}
 use Rattle.book.proofs.columns.impulses_settled.Goals as goal
-use Rattle.book.proofs.columns.impulses_settled.Goals.{After-raise, After-sum_bound, At-loop-column, Else-phases-ne0}
-
-eight_more : (column taps : ℕ) → column % 8 ≡ 0 → taps % 2 ≡ 0 → column < 4 * taps → column + 8 ≤ 4 * taps
-eight_more column taps h l m = omega arith
 
 -- the array of impulses is rows of four phases
-module _ (e : Else-phases-ne0) where
-  abbrev b : List ℤ
-  b = e.before.args.book.now
-
-  abbrev phases : ℕ
-  phases = e.before.args.phases
-
-  abbrev taps : ℕ
-  taps = e.before.args.taps
-
-  -- but the last
+module _ (p : Parts) (fours : p.sizes.phases % 4 ≡ 0) where
   abbrev rows : ℕ
-  rows = phases / 4 - 1
+  rows = p.sizes.phases / 4 - 1
 
-  sizes : Bounded (sizes_of b)
-  sizes = bounded b e.before.requires.book_value.0
+  phases_are : (p.sizes.phases ≡ (rows + 1) * 4) × (1 ≤ p.sizes.phases / 4)
+  phases_are = let f = parts_bounded p in omega (arith, f.phases_low)
 
-  phases_are : (phases ≡ (rows + 1) * 4) × (1 ≤ phases / 4)
-  phases_are = omega (arith, sizes.phases_low)
+  rows_are : (rows * (4 * p.sizes.taps) + 4 * p.sizes.taps ≡ array p) × (p.sizes.taps % 2 ≡ 0) × (p.sizes.taps ≤ 24)
+  rows_are = let f = parts_bounded p in (omega (arith, ap (λ m. m * p.sizes.taps) phases_are.0), f.taps-even, f.taps_high)
 
-  room : (taps ≤ 24) × (taps % 2 ≡ 0) × (5 + phases * taps + phases * taps ≤ length b) × (phases * taps ≤ 3072) × (rows * (4 * taps) + 4 * taps ≡ phases * taps)
-  room =
-      let array : phases * taps ≡ (sizes_of b).phases * (sizes_of b).taps = ap₂ ◌*◌ e.before.requires.phases_value.0 e.before.requires.phases_value.1 in
-      let whole : rows * (4 * taps) + 4 * taps ≡ phases * taps = omega (arith, ap (λ m. m * taps) phases_are.0) in
-      (omega (arith, sizes.taps_high), omega (arith, sizes.taps-even), omega (arith, length_is (sizes_of b)), omega (arith, array_high sizes), whole)
-
-pub returns-then-phases-ne0 : goal.returns-then-phases-ne0
-returns-then-phases-ne0 c = record { taps_value = λ e. let z : ◌≡◌ {A = ℕ} 0 1 = cc in absurd (omega arith); taps_bound = λ e. let z : ◌≡◌ {A = ℕ} 0 1 = cc in absurd (omega arith) }
+-- the same places, summed in another order
+at_places : (row a taps k : ℕ) {x : ℤ} (is ds : List ℤ) → Passed x (at ds (row + a + k)) (at is (row + a + taps + k)) (at is (row + a + k)) → Passed x (at ds (row + (a + k))) (at is (row + taps + (a + k))) (at is (row + (a + k)))
+at_places row a taps k is ds p =
+    let e : row + a + k ≡ row + (a + k) = omega arith in
+    let f : row + a + taps + k ≡ row + taps + (a + k) = omega arith in
+    rw (← e, ← f) p
 
 pub overflow_sub-rows : goal.overflow_sub-rows
-overflow_sub-rows c = omega (arith, (phases_are c).1)
+overflow_sub-rows c = (phases_are c.args.book.now c.if-book-ne0.false).1
 
-pub loop-column-init : goal.loop-column-init
-loop-column-init c = (refl, omega arith, refl, zeros_every (λ x. pos 0 ≤ℤ x) (≤ℤ_refl (pos 0)) 96, λ q k h l. absurd (omega arith))
+pub loop-eight-init : goal.loop-eight-init
+loop-eight-init c = record { not_negative = zeros_every (λ x. pos 0 ≤ℤ x) (≤ℤ_refl (pos 0)) 96; passed = λ q k h l. absurd (omega arith) }
 
-pub overflow_mul-taps : goal.overflow_mul-taps
-overflow_mul-taps c = omega (arith, room c.before)
+-- the eight places of a turn
+eight_inside : (eight taps : ℕ) → eight < taps / 2 → taps % 2 ≡ 0 → taps ≤ 24 → (8 * eight + 8 ≤ 4 * taps) × (8 * eight + 8 ≤ 96)
+eight_inside eight taps h l m = omega arith
 
-pub overflow_mul-phases : goal.overflow_mul-phases
-overflow_mul-phases c = omega (arith, room c.before.before.before)
+pub slice_bounds-bounds-end : goal.slice_bounds-bounds-end
+slice_bounds-bounds-end c = omega (arith, rows_are c.args.book.now c.if-book-ne0.false)
 
-pub test_eight-requires : goal.test_eight-requires
-test_eight-requires c =
-    let t = c.before.before in
-    let r = room t.before in
-    (eight_more t.loop-column.column (taps t.before) t.loop-column.invariant.0 r.1 (omega arith), omega (arith, r), omega (arith, r.4), r.2, r.3)
+pub test_eight-requires-clause-room : goal.test_eight-requires-clause-room
+test_eight-requires-clause-room c = omega (arith, rows_are c.args.book.now c.if-book-ne0.false, c.impulses-impulses.ensures.long, c.differences-differences.ensures.long)
 
-pub overflow_add-column : goal.overflow_add-column
-overflow_add-column c = omega (arith, room c.before.before.before.before.before)
+pub loop-eight-preserved : goal.loop-eight-preserved
+loop-eight-preserved c =
+    let l = c.loop-eight in
+    let p = c.args.book.now in
+    let a = 8 * l.eight in
+    let count : a + 8 - a ≡ 8 = omega arith in
+    let r = rows_are p c.if-book-ne0.false in
+    let e = c.test_eight.ensures in
+    let ys = c.test_eight.new.bounds in
+    let room : a + 8 ≤ length l.bounds = omega (arith, r, c.loop-eight-test.array_long) in
+    let raised = rw count at e.raised in
+    let up = section_raised l.bounds ys a 8 room raised in
+    rw count (record {
+      not_negative = λ k. ≤ℤ-trans (l.invariant.not_negative k) (up.rise k);
+      passed = λ q k h m.
+          elim (dec_lt k a) [
+            | yes n ↦ passed_more (up.rise k) (l.invariant.passed q k h n)
+            | no n ↦
+                let i : a + (k - a) ≡ k = omega arith in
+                let small : k - a < 8 = omega arith in
+                rw (← i) (rw (section_in l.bounds ys a 8 room raised (k - a) small) (at_places (q * (4 * p.sizes.taps)) a p.sizes.taps (k - a) c.impulses-impulses.result.now c.differences-differences.result.now (e.passed q (k - a) h small)))
+          ];
+    })
 
-pub loop-column-preserved : goal.loop-column-preserved
-loop-column-preserved c =
-    let t = c.before.before.before.before in
-    let inv = t.loop-column.invariant in
-    let r = c.before.test_eight.ensures in (
-      omega arith,
-      eight_more t.loop-column.column (taps t.before) inv.0 (room t.before).1 (omega arith),
-      r.raised.words ∙ inv.2,
-      λ k. ≤ℤ-trans (inv.3 k) (r.raised.rise k),
-      λ q k h l. elim (dec_lt k t.loop-column.column) [ yes m ↦ passed_more (r.raised.rise k) (inv.4 q k h m) | no m ↦ r.by_index q k h (omega arith) l ],
-    )
+pub slice_bounds-raise-count : goal.slice_bounds-raise-count
+slice_bounds-raise-count c = omega (arith, rows_are c.args.book.now c.if-book-ne0.false, c.impulses-impulses.ensures.long)
 
-pub overflow_mul-taps-2 : goal.overflow_mul-taps-2
-overflow_mul-taps-2 c = omega (arith, room c.before.before.before)
-
-pub overflow_mul-rows : goal.overflow_mul-rows
-overflow_mul-rows c = omega (arith, room c.before.before.before)
-
-pub overflow_add-rows : goal.overflow_add-rows
-overflow_add-rows c = omega (arith, room c.before.before.before)
-
-pub overflow_mul-taps-3 : goal.overflow_mul-taps-3
-overflow_mul-taps-3 c = omega (arith, room c.before.before.before)
+pub slice_bounds-raise-start : goal.slice_bounds-raise-start
+slice_bounds-raise-start c = omega (arith, rows_are c.args.book.now c.if-book-ne0.false, c.impulses-impulses.ensures.long)
 
 pub raise-requires : goal.raise-requires
-raise-requires c =
-    let t = c.before.before in
-    let r = room t.before in
-    (omega (arith, r, t.loop-column.invariant.2), omega (arith, r))
-
--- the bounds at the end: they bound the words of all rows, and tell of the differences of all rows but the last
-module _ (c : After-raise) where
-  abbrev t : At-loop-column
-  t = c.before.before.before
-
-  abbrev e : Else-phases-ne0
-  e = t.before
-
-  abbrev after : List ℤ
-  after = c.raise.new.bounds
-
-  tests_all : (p i : ℕ) → p + 1 < rows e + 1 → i < 4 * taps e → Passed (b e) (phases e * taps e) (taps e) (5 + p * (4 * taps e)) i (at after i)
-  tests_all p i h l = passed_more (c.raise.ensures.raised.rise i) (t.loop-column.invariant.4 p i (omega arith) (omega arith))
-
-  bounds_all : (p i : ℕ) → p < rows e + 1 → i < 4 * taps e → Bounds (at after i) (at (b e) (5 + p * (4 * taps e) + i))
-  bounds_all p i h l =
-      elim (ℕ_discrete p (rows e)) [ yes q ↦ rw q (c.raise.ensures.by_index i (omega arith) (omega arith)) | no q ↦ (tests_all p i (omega arith) l).bounded ]
+raise-requires c = let r = rows_are c.args.book.now c.if-book-ne0.false in simp (length-take, length-drop) (omega (arith, r, c.impulses-impulses.ensures.long, c.loop-eight-test.array_long))
 
 pub sum_bound-requires : goal.sum_bound-requires
 sum_bound-requires c =
-    let m = c.before.before in
-    let r = room (t m).before in
-    (omega (arith, r, m.raise.ensures.raised.words, (t m).loop-column.invariant.2), r.0, λ k. ≤ℤ-trans ((t m).loop-column.invariant.3 k) (m.raise.ensures.raised.rise k))
+    let r = rows_are c.args.book.now c.if-book-ne0.false in
+    (omega (arith, r, c.raise.ensures.raised.words, c.loop-eight-test.array_long), r.2, λ k. ≤ℤ-trans (c.loop-eight.invariant.not_negative k) (c.raise.ensures.raised.rise k))
 
-low : (c : After-sum_bound) {n : ℕ} → leb c.sum_bound.result n ≡ true
-    → let m = c.before.before.before in
-    total (taps (e m)) (tap_bound (after m) (taps (e m))) ≤ n
-low c {n} x = rw c.sum_bound.ensures at (leb-true c.sum_bound.result n x)
+-- the last row, as the code takes it
+last_words : (is after : List ℤ) (a row : ℕ) → length is ≡ a + row → ((k : ℕ) → k < length (part is a (length is - a)) → Bounds (at after k) (at (part is a (length is - a)) k))
+    → (k : ℕ) → k < row → Bounds (at after k) (at is (a + k))
+last_words is after a row e f k h =
+    let n : length (part is a (length is - a)) ≡ row = simp (length-take, length-drop) (omega arith) in
+    rw (at_part is a (length is - a) k (omega arith)) at (f k (omega (arith, n)))
 
-pub returns : goal.returns
-returns c =
-    let m = c.before.before.before in
-    let s = e m in
-    let z = s.before.requires.phases_value in record { taps_value = λ x. impulses_settled (b s) (after m) (rows s + 1) (phases s) (taps s) z.0 z.1 (phases_are s).0 (bounds_all m) (low c x); taps_bound = λ x. differences_settled (b s) (after m) (rows s + 1) (phases s) (taps s) z.0 z.1 (phases_are s).0 (bounds_all m) (low c x) (tests_all m) (omega arith) }
+-- the bounds at the end: they tell of the words of all rows but the last, and bound those of all rows
+module _ (p : Parts) (fours : p.sizes.phases % 4 ≡ 0) (is ds bounds after : List ℤ) (impulses_are : is ≡ impulses p.words.now) (differences_are : ds ≡ differences p.words.now)
+    (raised : Raised bounds after)
+    (told : (q k : ℕ) → q < rows p fours → k < 4 * p.sizes.taps → Passed (at bounds k) (at ds (q * (4 * p.sizes.taps) + k)) (at is (q * (4 * p.sizes.taps) + p.sizes.taps + k)) (at is (q * (4 * p.sizes.taps) + k)))
+    (last : (k : ℕ) → k < 4 * p.sizes.taps → Bounds (at after k) (at is (rows p fours * (4 * p.sizes.taps) + k)))
+    (low : total p.sizes.taps (tap_bound after p.sizes.taps) ≤ 65536) where
+  abbrev b : List ℤ
+  b = p.words.now
+
+  abbrev N : ℕ
+  N = p.sizes.taps
+
+  abbrev row : ℕ
+  row = 4 * N
+
+  row_inside : (q k : ℕ) → q < rows p fours → k < row → q * row + N + k < array p
+  row_inside q k h l = let r = (rows_are p fours).0 in let m : q * row + row ≤ rows p fours * row = omega (arith, mul-le-mul_right row h) in omega (arith, r, m)
+
+  tests_all : (q k : ℕ) → q + 1 < rows p fours + 1 → k < row → Passed (at after k) (at b (5 + q * row + array p + k)) (at b (5 + q * row + N + k)) (at b (5 + q * row + k))
+  tests_all q k h l =
+      let less : q < rows p fours = omega arith in
+      let r = row_inside q k less l in
+      let t = passed_more (raised.rise k) (told q k less l) in
+      let d = difference_at p impulses_are differences_are (q * row + k) (5 + q * row + array p + k) (omega (arith, r)) (omega arith) in
+      let n = impulse_at p impulses_are (q * row + N + k) (5 + q * row + N + k) (omega (arith, r)) (omega arith) in
+      let f = impulse_at p impulses_are (q * row + k) (5 + q * row + k) (omega (arith, r)) (omega arith) in
+      rw (d, n, f) at t
+
+  bounds_all : (q k : ℕ) → q < rows p fours + 1 → k < row → Bounds (at after k) (at b (5 + q * row + k))
+  bounds_all q k h l =
+      elim (ℕ_discrete q (rows p fours)) [
+        | yes e ↦
+            let w = impulse_at p impulses_are (rows p fours * row + k) (5 + rows p fours * row + k) (omega (arith, (rows_are p fours).0)) (omega arith) in
+            rw e (rw w at (last k l))
+        | no e ↦ (tests_all q k (omega arith) l).bounded
+      ]
+
+  phases_read : p.sizes.phases ≡ (sizes_of b).phases
+  phases_read = ap (λ s. s.phases) p.read
+
+  taps_read : N ≡ (sizes_of b).taps
+  taps_read = ap (λ s. s.taps) p.read
+
+  ranges : (words_in_range b 5 (array p) ≡ true) × (every p.sizes.phases (λ q. leb (phase_sum b q) 65536) ≡ true)
+  ranges = impulses_settled b after (rows p fours + 1) p.sizes.phases N phases_read taps_read (phases_are p fours).0 bounds_all low
+
+  settled_right : every (array p - 4 * N) (λ i. eq_z (at (differences b) i) (at (impulses b) (N + i) -ℤ at (impulses b) i)) ≡ true
+  settled_right =
+      let d = differences_settled b after (rows p fours + 1) p.sizes.phases N phases_read taps_read (phases_are p fours).0 bounds_all low tests_all (omega arith) in
+      first_words p refl refl N (array p - 4 * N) (omega (arith, room p)) ∙ d.1
+
+low_is : {n : ℕ} {m : ℕ} → n ≡ m → leb n 65536 ≡ true → m ≤ 65536
+low_is {n} e h = rw e at (leb-true n 65536 h)
+
+pub returns-clause-ranges : goal.returns-clause-ranges
+returns-clause-ranges c h =
+    let p = c.args.book.now in
+    let r = rows_are p c.if-book-ne0.false in
+    let is = c.impulses-impulses in
+    let l = c.loop-eight in
+    let last = last_words is.result.now c.raise.new.bounds (rows p c.if-book-ne0.false * (4 * p.sizes.taps)) (4 * p.sizes.taps) (omega (arith, r, is.ensures.long)) c.raise.ensures.bounded in
+    ranges p c.if-book-ne0.false is.result.now c.differences-differences.result.now l.bounds c.raise.new.bounds is.ensures.words c.differences-differences.ensures.words c.raise.ensures.raised
+    (λ q k m n. l.invariant.passed q k m (omega (arith, r))) last (low_is c.sum_bound.ensures h)
+
+pub returns-clause-right : goal.returns-clause-right
+returns-clause-right c h =
+    let p = c.args.book.now in
+    let r = rows_are p c.if-book-ne0.false in
+    let is = c.impulses-impulses in
+    let l = c.loop-eight in
+    let last = last_words is.result.now c.raise.new.bounds (rows p c.if-book-ne0.false * (4 * p.sizes.taps)) (4 * p.sizes.taps) (omega (arith, r, is.ensures.long)) c.raise.ensures.bounded in
+    settled_right p c.if-book-ne0.false is.result.now c.differences-differences.result.now l.bounds c.raise.new.bounds is.ensures.words c.differences-differences.ensures.words c.raise.ensures.raised
+    (λ q k m n. l.invariant.passed q k m (omega (arith, r))) last (low_is c.sum_bound.ensures h)

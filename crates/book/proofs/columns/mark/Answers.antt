@@ -1,75 +1,28 @@
--- `book::columns::mark` meets its contract. The loop's invariant: no bound fell, and those passed tell of their differences. Assumes nothing.
-use Rattle.std.proofs.Common.{ℕ, ◌+◌, ◌<◌, length, ℤ, ◌≤ℤ◌, arith, w16, w32, SFits}
-use mir.ValLaws.{to_z-of_z}
+-- `book::columns::mark` meets its contract. Assumes nothing.
+use Rattle.std.proofs.Common.{rules, ◌≡◌, ℕ, ◌<◌, ◌≤◌, true, length, ℤ, ◌-ℤ◌, nat_abs, sym, ◌∙◌, arith, w16, w32, SFits}
 use Rattle.arith.specs.Lists.{at}
 use Rattle.arith.proofs.Bits.{reads}
-use Rattle.book.proofs.ColumnBounds.{kept_tested, tested_more, raised_same, raised_more, raised_set, raised_next}
-use Rattle.book.proofs.columns.mark.Invariants.{Tells}
+use Rattle.arith.proofs.Tests.{eq_z_true}
+use Rattle.book.specs.Columns.{Tested}
+use Rattle.book.proofs.ColumnBounds.{kept_tested, tested_more, raised_more, raised_set, raised_next}
 use Rattle.book.proofs.columns.mark.Goals as goal
-use Rattle.book.proofs.columns.mark.Goals.{After-kept, At-loop-k}
-
-pub loop-k-init : goal.loop-k-init
-loop-k-init c = (omega arith, omega arith, raised_same c.args.bounds.now, λ j h l. absurd (omega arith))
-
-pub slice_copy_out-kept : goal.slice_copy_out-kept
-slice_copy_out-kept c = omega (arith, c.before.before.before.before.before.loop-k.invariant.2.words)
-
-pub bounds-bounds-k : goal.bounds-bounds-k
-bounds-bounds-k c = omega (arith, c.before.before.before.before.before.before.before.loop-k.invariant.2.words)
-
--- the bound that a turn writes
-module _ (c : After-kept) where
-  abbrev t : At-loop-k
-  t = c.before.before.before.before.before.before.before
-
-  abbrev k : ℕ
-  k = t.loop-k.k
-
-  abbrev bound : ℤ
-  bound = c.kept.result
-
-  bound_fits : SFits w16 bound
-  bound_fits = record { sfits = c.kept.type_inv }
-
-  old_fits : SFits w16 (at t.loop-k.bounds k)
-  old_fits = record { sfits = c.before.kept-arg-1.given }
-
-  inside : k < length t.loop-k.bounds
-  inside = omega (arith, t.loop-k.invariant.2.words)
-
-  abbrev word : ℕ → ℤ
-  word place = at t.before.args.book.now (place + k)
-
-  to-fits : SFits w32 (word t.before.args.to)
-  to-fits = record { sfits = c.before.before.before.before.before.follows-arg-1.given }
-
-  next_fits : SFits w32 (word t.before.args.next)
-  next_fits = record { sfits = c.before.before.before.before.follows-arg-in-loop-k-1.given }
-
-  from-fits : SFits w32 (word t.before.args.from)
-  from-fits = record { sfits = c.before.before.before.follows-arg-in-loop-k-2-1.given }
-
--- it did not fall, and tells of its difference
-told : (c : After-kept)
-    → let s = (t c).before.args in
-    (at (t c).loop-k.bounds (k c) ≤ℤ bound c) × Tells s.book.now s.to s.next s.from (k c) (bound c)
-told c =
-    let f = c.before.before.follows-right in
-    kept_tested f.result (old_fits c) (simp (reads, old_fits c) at c.kept.ensures)
-    (λ e small low. simp (reads, to-fits c, next_fits c, from-fits c) at (f.ensures e (rw (to_z-of_z w32 _ (next_fits c)) small) (rw (to_z-of_z w32 _ (from-fits c)) low)))
 
 pub loop-k-preserved : goal.loop-k-preserved
 loop-k-preserved c =
-    let s = (t c).before.args in
-    let r = told c in (
-      omega arith,
-      omega arith,
-      simp (reads, bound_fits c) (raised_more (t c).loop-k.invariant.2 (raised_set (t c).loop-k.bounds (k c) (bound c) (inside c) r.0)),
-      simp (reads, bound_fits c) (raised_next (Tells s.book.now s.to s.next s.from) (λ j x y. tested_more) (t c).loop-k.bounds s.column (k c) (bound c) (inside c) r.0 r.1 (t c).loop-k.invariant.3),
+    let l = c.loop-k in
+    let difference : ℕ → ℤ = at c.args.differences.now in
+    let next : ℕ → ℤ = at c.args.next.now in
+    let from : ℕ → ℤ = at c.args.from.now in
+    let to-fits : SFits w32 (at c.args.differences.now l.k) = search rules in
+    let next_fits : SFits w32 (at c.args.next.now l.k) = search rules in
+    let from-fits : SFits w32 (at c.args.from.now l.k) = search rules in
+    let old_fits : SFits w16 (at l.bounds l.k) = search rules in
+    let fits : SFits w16 c.kept.result = search rules in
+    let inside : l.k < length l.bounds = omega arith in
+    let rule = simp (reads, to-fits, next_fits, from-fits) at c.follows.ensures in
+    let right : c.follows.result ≡ true → nat_abs (next l.k) ≤ 32767 → nat_abs (from l.k) ≤ 32767 → difference l.k ≡ next l.k -ℤ from l.k =
+    λ e small low. eq_z_true _ _ (sym (rule (omega arith) (omega arith)) ∙ e) in
+    let told = kept_tested c.follows.result old_fits (simp (reads, old_fits) at c.kept.ensures) right in (
+      simp (reads, fits) (raised_more l.invariant.0 (raised_set l.bounds l.k c.kept.result inside told.0)),
+      simp (reads, fits) (raised_next (λ j x. Tested x (difference j) (next j) (from j)) (λ j x y. tested_more) l.bounds l.k c.kept.result inside told.0 told.1 l.invariant.1),
     )
-
-pub shape_of-bounds : goal.shape_of-bounds
-shape_of-bounds c = c.before.loop-k.invariant.2.words
-
-pub returns : goal.returns
-returns c = let l = c.before.loop-k in record { raised = l.invariant.2; by_index = λ j h m. l.invariant.3 j h (omega arith) }

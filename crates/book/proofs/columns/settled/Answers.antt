@@ -1,58 +1,47 @@
 -- `book::columns::settled` meets its contract. Assumes nothing.
-use Rattle.std.proofs.Common.{◌≡◌, ℕ, ◌*◌, ◌≤◌, true, ◌&&◌, leb, List, ℤ, sym, refl, ◌∙◌, ap₂, arith, leb-true}
-use Rattle.arith.proofs.Tests.{&&-left, &&-right, test_holds}
-use Rattle.book.specs.Book.{sizes_of, level_taps, decimation_taps}
-use Rattle.book.specs.Check.{coefficients_in_range, tap_sum, sums_in_range}
-use Rattle.book.proofs.Bounds.{bounded, array_high}
+use Rattle.std.proofs.Common.{◌≡◌, ℕ, Bool, true, false, ◌&&◌, leb, sym, ap, ◌∙◌, arith, leb-true}
+use Rattle.arith.specs.Tests.{every}
+use Rattle.arith.proofs.Tests.{&&-left, &&-right}
+use Rattle.book.specs.declared.places.Parts.{Parts}
+use Rattle.book.specs.Book.{level_taps, decimation_taps}
+use Rattle.book.specs.Check.{coefficients_in_range, tap_sum, sums_in_range, words_in_range, phase_sum}
 use Rattle.book.proofs.ColumnBounds.{settled}
+use Rattle.book.proofs.Whole.{array}
 use Rattle.book.proofs.columns.settled.Goals as goal
-use Rattle.book.proofs.columns.settled.Goals.{Else-not-tap_sums_within, Start}
+use Rattle.book.proofs.columns.settled.Goals.{then-impulses_settled, else-impulses_settled}
 
-pub returns-then-not-impulses_settled : goal.returns-then-not-impulses_settled
-returns-then-not-impulses_settled c e = let z : ◌≡◌ {A = ℕ} 0 1 = cc in absurd (omega arith)
+abbrev level : Parts → Bool
+level p = leb (tap_sum (level_taps p.words.now)) 32767
 
-pub returns-then-not-tap_sums_within : goal.returns-then-not-tap_sums_within
-returns-then-not-tap_sums_within c e = let z : ◌≡◌ {A = ℕ} 0 1 = cc in absurd (omega arith)
+abbrev decimation : Parts → Bool
+decimation p = leb (tap_sum (decimation_taps p.words.now)) 32767
+
+-- a test that holds did not fail
+clash : {v r s : Bool} → v ≡ true → v ≡ r → r ≡ false → s ≡ true
+clash e f g = let z : ◌≡◌ {A = ℕ} 0 1 = cc in absurd (omega arith)
 
 -- what the bounds and the sums of taps settle
-module _ (c : Else-not-tap_sums_within) where
-  abbrev s : Start
-  s = c.before.before.before.before
+ranged : (p : Parts) {r : Bool} → (r ≡ true → (words_in_range p.words.now 5 (array p) ≡ true) × (every p.sizes.phases (λ q. leb (phase_sum p.words.now q) 65536) ≡ true)) → r ≡ true → level p && decimation p ≡ true
+    → (coefficients_in_range p.words.now ≡ true) × (sums_in_range p.words.now ≡ true)
+ranged p ranges e both =
+    let b = p.words.now in
+    settled b (ap (λ s. s.phases) p.read) (ap (λ s. s.taps) p.read) p.long (ranges e) (leb-true (tap_sum (level_taps b)) 32767 (&&-left (level p) (decimation p) both)) (leb-true (tap_sum (decimation_taps b)) 32767 (&&-right (level p) (decimation p) both))
 
-  abbrev b : List ℤ
-  b = s.args.book.now
+pub differences_right-requires-clause-in_range : goal.differences_right-requires-clause-in_range
+differences_right-requires-clause-in_range c =
+    let p = c.args.book.now in
+    elim c.if-impulses_settled.branch [
+      | then-impulses_settled w ↦ (ranged p c.impulses_settled.ensures.ranges w.if-impulses_settled.true (sym w.tap_sums_within.ensures ∙ sym w.value-is ∙ c.if-tap_sums_within.true)).0
+      | else-impulses_settled w ↦ clash c.if-tap_sums_within.true w.value-is w.if-impulses_settled.false
+    ]
 
-  -- the bounds were found to settle the impulses
-  taken : c.before.before.before.impulses_settled.result ≡ true
-  taken = test_holds refl c.before.before.if-not-impulses_settled.false
-
-  ranged : (coefficients_in_range b ≡ true) × (sums_in_range b ≡ true)
-  ranged =
-      let level = leb (tap_sum (level_taps b)) 32767 in
-      let decimation = leb (tap_sum (decimation_taps b)) 32767 in
-      let both : level && decimation ≡ true = test_holds c.before.tap_sums_within.ensures c.if-not-tap_sums_within.false in
-      settled b s.requires.phases_value.0 s.requires.phases_value.1 s.requires.book_value.1 (c.before.before.before.impulses_settled.ensures.taps_value taken)
-      (leb-true (tap_sum (level_taps b)) 32767 (&&-left level decimation both)) (leb-true (tap_sum (decimation_taps b)) 32767 (&&-right level decimation both))
-
-  array_is : s.args.phases * s.args.taps ≡ (sizes_of b).phases * (sizes_of b).taps
-  array_is = ap₂ ◌*◌ s.requires.phases_value.0 s.requires.phases_value.1
-
-  room : (s.args.phases * s.args.taps ≤ 3072) × (4 * s.args.taps ≤ s.args.phases * s.args.taps)
-  room = (omega (arith, array_is, array_high (bounded b s.requires.book_value.0)), (c.before.before.before.impulses_settled.ensures.taps_bound taken).0)
-
-pub overflow_mul-array : goal.overflow_mul-array
-overflow_mul-array c = omega (arith, room c)
-
-pub overflow_mul-taps : goal.overflow_mul-taps
-overflow_mul-taps c = omega (arith, room c)
-
-pub overflow_sub-array : goal.overflow_sub-array
-overflow_sub-array c = omega (arith, room c)
-
-pub differences_right-requires : goal.differences_right-requires
-differences_right-requires c =
-    let p = (s c).requires in
-    record { book_value = p.book_value; array_value = (array_is c, p.phases_value.1); book_value_2 = (ranged c).0; taps_bound = (omega (arith, room c), (c.before.before.before.impulses_settled.ensures.taps_bound (taken c)).1) }
-
-pub returns : goal.returns
-returns c e = ((ranged c.before).0, (ranged c.before).1, sym c.differences_right.ensures ∙ e)
+pub returns-then-tap_sums_within : goal.returns-then-tap_sums_within
+returns-then-tap_sums_within c h =
+    let p = c.args.book.now in
+    let right = sym c.differences_right.ensures ∙ h in
+    elim c.if-impulses_settled.branch [
+      | then-impulses_settled w ↦
+          let r = ranged p c.impulses_settled.ensures.ranges w.if-impulses_settled.true (sym w.tap_sums_within.ensures ∙ sym w.value-is ∙ c.if-tap_sums_within.true) in
+          (r.0, r.1, right)
+      | else-impulses_settled w ↦ (clash c.if-tap_sums_within.true w.value-is w.if-impulses_settled.false, clash c.if-tap_sums_within.true w.value-is w.if-impulses_settled.false, right)
+    ]

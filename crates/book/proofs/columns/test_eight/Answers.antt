@@ -1,56 +1,44 @@
--- `book::columns::test_eight` meets its contract. The loop's invariant: no bound fell, and the eight tell of their words of the rows passed.
--- Assumes nothing.
-use Rattle.std.proofs.Common.{◌+◌, ◌*◌, ◌≤◌, mul-le-mul_right, arith}
+-- `book::columns::test_eight` meets its contract. Assumes nothing.
+use Rattle.std.proofs.Common.{◌≡◌, ℕ, ◌+◌, ◌-◌, ◌*◌, ◌<◌, ◌≤◌, List, length, ℤ, mul-le-mul_right, arith}
 use native.Mathlib.Decide.{ℕ_discrete}
+use Rattle.arith.specs.Lists.{at, part}
 use Rattle.arith.proofs.Integers.{≤ℤ-trans}
-use Rattle.book.proofs.ColumnBounds.{bounds_more, passed_more, raised_same, raised_more}
+use Rattle.arith.proofs.Lists.{part_length, at_part}
+use Rattle.book.proofs.ColumnBounds.{bounds_more, passed_more, raised_more}
 use Rattle.book.proofs.columns.test_eight.Goals as goal
-use Rattle.book.proofs.columns.test_eight.Goals.{In-loop-q}
 
--- row q lies in the rows
-row_inside : (c : In-loop-q) → let a = c.before.before.args in c.before.loop-q.q * (4 * a.taps) + 4 * a.taps ≤ a.rows * (4 * a.taps)
-row_inside c = let a = c.before.before.args in omega (arith, mul-le-mul_right (4 * a.taps) c.loop-q-test.true)
+-- the eight words from place a on
+module _ (xs : List ℤ) (a : ℕ) (room : a + 8 ≤ length xs) where
+  many : a + 8 - a ≡ 8
+  many = omega arith
 
-pub loop-q-init : goal.loop-q-init
-loop-q-init c = (omega arith, raised_same c.args.bounds.now, λ p k h l m. absurd (omega arith))
+  eight_length : length (part xs a (a + 8 - a)) ≡ 8
+  eight_length = rw many (part_length xs a 8 room)
 
-pub overflow_mul-row-in-loop-q : goal.overflow_mul-row-in-loop-q
-overflow_mul-row-in-loop-q c = omega (arith, row_inside c)
-
-pub overflow_add-row : goal.overflow_add-row
-overflow_add-row c = omega (arith, row_inside c)
-
-pub raise-requires : goal.raise-requires
-raise-requires c = let i = c.before in (omega (arith, i.before.loop-q.invariant.1.words), omega (arith, row_inside i))
-
-pub overflow_add-row-in-loop-q : goal.overflow_add-row-in-loop-q
-overflow_add-row-in-loop-q c = omega (arith, row_inside c.before.before.before.before)
-
-pub overflow_add-row-in-loop-q-2 : goal.overflow_add-row-in-loop-q-2
-overflow_add-row-in-loop-q-2 c = omega (arith, row_inside c.before.before.before.before)
-
-pub mark-requires : goal.mark-requires
-mark-requires c =
-    let i = c.before.before.before.before in
-    let inside = row_inside i in
-    (omega (arith, c.before.before.raise.ensures.raised.words, i.before.loop-q.invariant.1.words), omega arith, omega arith, omega arith)
+  at_eight : (k : ℕ) → k < 8 → at (part xs a (a + 8 - a)) k ≡ at xs (a + k)
+  at_eight k h = rw many (at_part xs a 8 k h)
 
 pub loop-q-preserved : goal.loop-q-preserved
 loop-q-preserved c =
-    let m = c.before.mark.ensures in
-    let r = c.before.before.before.before.raise.ensures in
-    let l = c.before.before.before.before.before.before.before.loop-q in (
-      omega arith,
-      raised_more l.invariant.1 (raised_more r.raised m.raised),
-      λ p k h n o.
+    let l = c.loop-q in
+    let row = 4 * c.args.taps in
+    let place = l.q * row + c.args.column in
+    let impulses = c.args.impulses.now in
+    let differences = c.args.differences.now in
+    let inside : l.q * row + row ≤ c.args.rows * row = omega (arith, mul-le-mul_right row c.loop-q-test.true) in
+    let here : place + 8 ≤ length impulses = omega (arith, inside) in
+    let there : place + c.args.taps + 8 ≤ length impulses = omega (arith, inside) in
+    let to : place + 8 ≤ length differences = omega (arith, inside) in
+    let r = c.raise.ensures in
+    let m = c.mark.ensures in (
+      raised_more l.invariant.0 (raised_more r.raised m.raised),
+      λ p k n o.
           elim (ℕ_discrete p l.q) [
-            | yes e ↦ rw e (record { bounded = bounds_more (m.raised.rise k) (r.by_index k n o); tested = m.by_index k n o })
-            | no d ↦ passed_more (≤ℤ-trans (r.raised.rise k) (m.raised.rise k)) (l.invariant.2 p k (omega arith) n o)
+            | yes e ↦
+                let word = at_eight impulses place here k o in
+                let bounded = rw word at (r.bounded k (omega (arith, eight_length impulses place here))) in
+                let tested = rw (at_eight differences place to k o, at_eight impulses (place + c.args.taps) there k o, word) at (m.tested k (omega (arith, eight_length differences place to))) in
+                rw e (record { bounded = bounds_more (m.raised.rise k) bounded; tested = tested })
+            | no d ↦ passed_more (≤ℤ-trans (r.raised.rise k) (m.raised.rise k)) (l.invariant.1 p k (omega arith) o)
           ],
     )
-
-pub shape_of-bounds : goal.shape_of-bounds
-shape_of-bounds c = c.before.loop-q.invariant.1.words
-
-pub returns : goal.returns
-returns c = let l = c.before.loop-q in record { raised = l.invariant.1; by_index = λ p k h. l.invariant.2 p k (omega arith) }

@@ -1,120 +1,114 @@
 -- `book::differences::differences_right` meets its contract, which is one of three runs of words (`Runs`). Assumes nothing.
-use Rattle.std.proofs.Common.{◌≡◌, ℕ, ◌+◌, ◌-◌, ◌<◌, ◌≤◌, ◌&&◌, List, length, ℤ, pos, ◌-ℤ◌, nat_abs, arith}
-use Rattle.arith.specs.Lists.{at}
+use Rattle.std.proofs.Common.{rules, ◌≡◌, ℕ, ◌+◌, ◌-◌, ◌≤◌, Bool, true, ◌&&◌, List, length, ℤ, pos, ◌-ℤ◌, sym, refl, ap, ◌∙◌, arith, w32, SFits}
+use Rattle.arith.specs.Lists.{at, part}
 use Rattle.arith.specs.Tests.{eq_z, every}
-use Rattle.arith.proofs.Tests.{test_fails, test_holds}
-use Rattle.book.specs.Book.{sizes_of}
+use Rattle.arith.proofs.Bits.{reads}
+use Rattle.book.specs.declared.places.Parts.{Parts}
 use Rattle.book.specs.Check.{differences_right}
-use Rattle.book.proofs.Bounds.{bounded, array_low, array_high, length_is, impulses_small}
+use Rattle.book.specs.Inner.{impulses, differences}
+use Rattle.book.proofs.Bounds.{bounded}
+use Rattle.book.proofs.Chained.{made, not_made, &&-assoc}
 use Rattle.book.proofs.Runs.{right_at, differences_runs}
+use Rattle.book.proofs.Sections.{impulses_small, section, last_word, first_words}
+use Rattle.book.proofs.Whole.{array, room, array_is, impulses_long, impulse_small}
 use Rattle.book.proofs.differences.differences_right.Goals as goal
-use Rattle.book.proofs.differences.differences_right.Goals.{Start}
+use Rattle.book.proofs.differences.differences_right.Goals.{then-run_right, else-run_right}
 
-module _ (c : Start) where
+pub run_right-requires-clause-next_small : goal.run_right-requires-clause-next_small
+run_right-requires-clause-next_small c = impulses_small c.args.book.now c.impulses-impulses.ensures.words c.requires.in_range _ _
+
+pub run_right-requires-clause-from_small : goal.run_right-requires-clause-from_small
+run_right-requires-clause-from_small c = impulses_small c.args.book.now c.impulses-impulses.ensures.words c.requires.in_range _ _
+
+pub run_right-requires-then-run_right-clause-next_small : goal.run_right-requires-then-run_right-clause-next_small
+run_right-requires-then-run_right-clause-next_small c = search (impulses_small c.args.book.now c.impulses-impulses.ensures.words c.requires.in_range)
+
+pub run_right-requires-then-run_right-clause-from_small : goal.run_right-requires-then-run_right-clause-from_small
+run_right-requires-then-run_right-clause-from_small c = impulses_small c.args.book.now c.impulses-impulses.ensures.words c.requires.in_range _ _
+
+-- the rule, over the sizes that were read, without the differences that are known to be right
+module _ (p : Parts) (s : ℕ) where
   abbrev b : List ℤ
-  b = c.args.book.now
-
-  -- the book holds both arrays, and a phase is no longer than one of them
-  room : (5 + c.args.array + c.args.array + 2 ≤ length b) × (2 ≤ c.args.taps) × (c.args.taps ≤ c.args.array) × (c.args.array ≤ 3072)
-  room =
-      let f = bounded b c.requires.book_value.0 in
-      omega (arith, length_is (sizes_of b), array_low f, array_high f, f.taps_low)
+  b = p.words.now
 
   abbrev A : ℕ
-  A = c.args.array
+  A = array p
 
   abbrev N : ℕ
-  N = c.args.taps
+  N = p.sizes.taps
 
-  abbrev start : ℕ
-  start = c.args.start
+  abbrev early : Bool
+  early = every (A - N - s) (right_at b (5 + A + s) (5 + N + s) (5 + s))
 
-  -- the rule, over the code's numbers, without the differences that are known to be right
-  rule : differences_right b
-      ≡ every (A - N - start) (right_at b (5 + A + start) (5 + N + start) (5 + start))
-      && (every (N - 1) (right_at b (5 + A + (A - N)) 6 (5 + (A - N))) && eq_z (at b (4 + A + A)) (pos 0 -ℤ at b (4 + A)))
-  rule = differences_runs b A N start (bounded b c.requires.book_value.0) c.requires.array_value.0 c.requires.array_value.1 c.requires.taps_bound.0 c.requires.taps_bound.1
+  abbrev late : Bool
+  late = every (N - 1) (right_at b (5 + A + (A - N)) 6 (5 + (A - N)))
 
-  -- the impulses from two places on
-  small : (m n count : ℕ) → 5 ≤ m → 5 ≤ n → m + count ≤ 5 + c.args.array → n + count ≤ 5 + c.args.array
-      → (i : ℕ) → i < count → (nat_abs (at b (m + i)) ≤ 32768) × (nat_abs (at b (n + i)) ≤ 32768)
-  small m n count h l p q i less =
-      let s = impulses_small b c.requires.book_value_2 in
-      (s (m + i) (omega arith) (omega arith), s (n + i) (omega arith) (omega arith))
+  abbrev final : Bool
+  final = eq_z (at b (4 + A + A)) (pos 0 -ℤ at b (4 + A))
 
-pub overflow_sub-last : goal.overflow_sub-last
-overflow_sub-last c = omega (arith, room c)
+  rule : s + N ≤ A → every s (λ i. eq_z (at (differences b) i) (at (impulses b) (N + i) -ℤ at (impulses b) i)) ≡ true → early && late && final ≡ differences_right b
+  rule h e =
+      let known = sym (first_words p refl refl N s (omega arith)) ∙ e in
+      &&-assoc early late final ∙ sym (differences_runs b A N s (bounded b p.in_range) (sym (array_is p)) (ap (λ z. z.taps) p.read) h known)
 
-pub overflow_add-array : goal.overflow_add-array
-overflow_add-array c = omega (arith, room c)
+-- the runs, as the code takes them
+module _ (p : Parts) (s : ℕ) {is ds : List ℤ} (impulses_are : is ≡ impulses p.words.now) (differences_are : ds ≡ differences p.words.now) (inside : s + N p s ≤ A p s) where
+  abbrev last : ℕ
+  last = length is - p.sizes.taps
 
-pub overflow_add-array-2 : goal.overflow_add-array-2
-overflow_add-array-2 c = omega (arith, room c)
+  abbrev end : ℕ
+  end = length is - 1
 
-pub overflow_add-taps : goal.overflow_add-taps
-overflow_add-taps c = omega (arith, room c)
+  abbrev right : (to count next behind from many : ℕ) → Bool
+  right to count next behind from many = every (length (part ds to count)) (λ i. eq_z (at (part ds to count) i) (at (part is next behind) i -ℤ at (part is from many) i))
 
-pub overflow_add-taps-2 : goal.overflow_add-taps-2
-overflow_add-taps-2 c = omega (arith, room c)
+  known : (length is ≡ A p s) × (2 ≤ p.sizes.taps) × (p.sizes.taps ≤ A p s)
+  known = let r = room p in (impulses_long p impulses_are, r.3, r.2)
 
-pub overflow_add-start : goal.overflow_add-start
-overflow_add-start c = omega (arith, room c)
+  early_is : right s (last - s) (s + p.sizes.taps) (length is - (s + p.sizes.taps)) s (last - s) ≡ early p s
+  early_is =
+      let n = A p s - N p s - s in
+      let next : 5 + (s + p.sizes.taps) ≡ 5 + p.sizes.taps + s = omega arith in
+      section p impulses_are differences_are s (s + p.sizes.taps) s n (omega (arith, known)) (omega (arith, known)) (omega (arith, known)) (omega (arith, known)) (omega (arith, known)) (omega (arith, known))
+      ∙ ap (λ j. every n (right_at (b p s) (5 + A p s + s) j (5 + s))) next
 
-pub overflow_sub-last-2 : goal.overflow_sub-last-2
-overflow_sub-last-2 c = omega (arith, room c)
+  late_is : right last (end - last) 1 (p.sizes.taps - 1) last (end - last) ≡ late p s
+  late_is =
+      section p impulses_are differences_are last 1 last (p.sizes.taps - 1) (omega (arith, known)) (omega (arith, known)) (omega (arith, known)) (omega (arith, known)) (omega (arith, known)) (omega (arith, known))
+      ∙ ap (λ z. every (p.sizes.taps - 1) (right_at (b p s) (5 + A p s + (z - p.sizes.taps)) 6 (5 + (z - p.sizes.taps)))) known.0
 
-pub run_right-requires : goal.run_right-requires
-run_right-requires c = let r = room c in record { count_in_bounds = omega arith; by_index = small c _ _ _ (omega arith) (omega arith) (omega arith) (omega arith) }
+  final_is : eq_z (at ds end) (pos 0 -ℤ at is end) ≡ final p s
+  final_is = ap (λ z. eq_z (at ds (z - 1)) (pos 0 -ℤ at is (z - 1))) known.0 ∙ last_word p impulses_are differences_are (omega (arith, known))
 
-pub returns-then-not-run_right : goal.returns-then-not-run_right
-returns-then-not-run_right c = simp (rule c.before.before, test_fails c.before.run_right.ensures c.if-not-run_right.true)
+pub returns-then-run_right-2 : goal.returns-then-run_right-2
+returns-then-run_right-2 c =
+    let p = c.args.book.now in
+    let s = c.args.start in
+    let is = c.impulses-impulses in
+    let ds = c.differences-differences in
+    let r1 = c.run_right.ensures ∙ early_is p s is.ensures.words ds.ensures.words c.requires.start_inside in
+    let r2 : c.if-run_right.value ≡ early p s && late p s =
+    elim c.if-run_right.branch [
+      | then-run_right w ↦ made r1 w.if-run_right.true (w.run_right-then-run_right.ensures ∙ late_is p s is.ensures.words ds.ensures.words c.requires.start_inside) w.value-is
+      | else-run_right w ↦ not_made (late p s) r1 w.if-run_right.false w.value-is
+    ] in
+    let end = length is.result.now - 1 in
+    let to-fits : SFits w32 (at ds.result.now end) = search rules in
+    let from-fits : SFits w32 (at is.result.now end) = search rules in
+    let small = impulse_small p c.requires.in_range is.result.now is.ensures.words end (omega (arith, is.ensures)) in
+    let told = (simp (reads, to-fits, from-fits) at c.follows.ensures) (omega arith) small in
+    made r2 c.if-run_right-2.true (told ∙ final_is p s is.ensures.words ds.ensures.words c.requires.start_inside) refl ∙ rule p s c.requires.start_inside c.requires.start_right
 
-pub overflow_add-array-3 : goal.overflow_add-array-3
-overflow_add-array-3 c = omega (arith, room c.before.before)
-
-pub overflow_add-array-4 : goal.overflow_add-array-4
-overflow_add-array-4 c = omega (arith, room c.before.before)
-
-pub overflow_add-last : goal.overflow_add-last
-overflow_add-last c = omega (arith, room c.before.before)
-
-pub overflow_sub-taps : goal.overflow_sub-taps
-overflow_sub-taps c = omega (arith, room c.before.before)
-
-pub run_right-requires-2 : goal.run_right-requires-2
-run_right-requires-2 c =
-    let s = c.before.before in
-    let r = room s in
-    record { count_in_bounds = omega arith; by_index = small s _ _ _ (omega arith) (omega arith) (omega arith) (omega arith) }
-
-pub returns-then-not-run_right-2 : goal.returns-then-not-run_right-2
-returns-then-not-run_right-2 c =
-    let e1 = c.before.before in
-    simp (
-      rule e1.before.before,
-      test_holds e1.before.run_right.ensures e1.if-not-run_right.false,
-      test_fails c.before.run_right-2.ensures c.if-not-run_right-2.true,
-    )
-
-pub overflow_add-array-5 : goal.overflow_add-array-5
-overflow_add-array-5 c = omega (arith, room c.before.before.before.before)
-
-pub overflow_add-array-6 : goal.overflow_add-array-6
-overflow_add-array-6 c = omega (arith, room c.before.before.before.before)
-
-pub overflow_add-array-7 : goal.overflow_add-array-7
-overflow_add-array-7 c = omega (arith, room c.before.before.before.before)
-
-pub word_negated-requires : goal.word_negated-requires
-word_negated-requires c = omega (arith, room c.before.before.before.before)
-
-pub returns : goal.returns
-returns c =
-    let e2 = c.before in
-    let e1 = e2.before.before in
-    simp (
-      rule e1.before.before,
-      test_holds e1.before.run_right.ensures e1.if-not-run_right.false,
-      test_holds e2.before.run_right-2.ensures e2.if-not-run_right-2.false,
-    )
-    c.word_negated.ensures
+pub returns-else-run_right-2 : goal.returns-else-run_right-2
+returns-else-run_right-2 c =
+    let p = c.args.book.now in
+    let s = c.args.start in
+    let is = c.impulses-impulses in
+    let ds = c.differences-differences in
+    let r1 = c.run_right.ensures ∙ early_is p s is.ensures.words ds.ensures.words c.requires.start_inside in
+    let r2 : c.if-run_right.value ≡ early p s && late p s =
+    elim c.if-run_right.branch [
+      | then-run_right w ↦ made r1 w.if-run_right.true (w.run_right-then-run_right.ensures ∙ late_is p s is.ensures.words ds.ensures.words c.requires.start_inside) w.value-is
+      | else-run_right w ↦ not_made (late p s) r1 w.if-run_right.false w.value-is
+    ] in
+    not_made (final p s) r2 c.if-run_right-2.false refl ∙ rule p s c.requires.start_inside c.requires.start_right

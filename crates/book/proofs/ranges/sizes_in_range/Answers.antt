@@ -1,113 +1,66 @@
 -- `book::ranges::sizes_in_range` meets its contract: the code makes the definition's tests, in their order. Assumes nothing.
-use Rattle.std.proofs.Common.{◌≡◌, ℕ, ◌%◌, ◌<◌, true, false, eqb, length, pos, nat_abs, ap, ◌∙◌, le_trans, lit≤, eq-eqb, ne_eqb}
+use Rattle.std.proofs.Common.{◌≡◌, ℕ, ◌%◌, Bool, ◌&&◌, eqb, List, ℤ, pos, nat_abs, refl, ap, ◌∙◌}
 use Rattle.arith.specs.Lists.{at}
 use Rattle.arith.specs.Tests.{within}
-use Rattle.arith.proofs.Tests.{test_fails, test_holds}
 use Rattle.book.specs.Book.{sizes_of}
 use Rattle.book.specs.Check.{power_of_two, sizes_in_range}
+use Rattle.book.proofs.Chained.{made, not_made}
 use Rattle.book.proofs.ranges.sizes_in_range.Goals as goal
-use Rattle.book.proofs.ranges.sizes_in_range.Goals.{After-power_of_two, Else-not-power_of_two, Else-not-word_between, Else-not-word_between-2, Else-not-word_between-3, Else-not-word_between-4, Else-word_size-ne0, Start}
+use Rattle.book.proofs.ranges.sizes_in_range.Goals.{Joined-word_between-3}
+use Rattle.book.proofs.ranges.sizes_in_range.Goals.{then-word_between, else-word_between, then-word_size-eq0, else-word_size-eq0, then-word_between-2, else-word_between-2}
+use Rattle.book.proofs.ranges.sizes_in_range.Goals.{then-power_of_two, else-power_of_two, then-word_between-3, else-word_between-3}
 
--- each of the five words is there
-has_word : (s : Start) {k : ℕ} → k < 5 → k < length s.args.book.now
-has_word s h = le_trans h s.requires
+module _ (b : List ℤ) where
+  abbrev even : Bool
+  even = eqb (nat_abs (at b 0) % 2) 0
 
--- ---- what each test shows where it holds
-taps-within : (c : Else-not-word_between) → within (pos 2) (pos 24) (at c.before.before.args.book.now 0) ≡ true
-taps-within c = test_holds c.before.word_between.ensures c.if-not-word_between.false
+  abbrev small : ℕ → Bool
+  small k = within (pos 0) (pos 40) (at b k)
 
-taps-even : (c : Else-word_size-ne0) → eqb (nat_abs (at c.before.before.before.before.args.book.now 0) % 2) 0 ≡ true
-taps-even c = rw (← c.before.word_size.ensures.0) (eq-eqb _ _ c.if-word_size-ne0.false)
+  abbrev power : Bool
+  power = power_of_two (nat_abs (at b 1))
 
-phases-within : (c : Else-not-word_between-2) → within (pos 1) (pos 128) (at c.before.before.before.before.before.before.args.book.now 1) ≡ true
-phases-within c = test_holds c.before.word_between-2.ensures c.if-not-word_between-2.false
+  abbrev two : Bool
+  two = within (pos 2) (pos 24) (at b 0) && even
 
-power : (c : After-power_of_two) → c.power_of_two.result ≡ power_of_two (nat_abs (at c.before.before.before.before.before.before.before.before.args.book.now 1))
-power c = c.power_of_two.ensures ∙ ap power_of_two c.before.word_size-2.ensures.0
+  abbrev three : Bool
+  three = two && within (pos 1) (pos 128) (at b 1)
 
-phases-power : (c : Else-not-power_of_two) → power_of_two (nat_abs (at c.before.before.before.before.before.before.before.before.before.args.book.now 1)) ≡ true
-phases-power c = test_holds (power c.before) c.if-not-power_of_two.false
+  whole : three && power && small 2 && small 3 && within (pos 1) (pos 256) (at b 4) ≡ sizes_in_range b
+  unfolding sizes_in_range sizes_of
+  whole = refl
 
-reach-within : (c : Else-not-word_between-3) → within (pos 0) (pos 40) (at c.before.before.before.before.before.before.before.before.before.before.before.args.book.now 2) ≡ true
-reach-within c = test_holds c.before.word_between-3.ensures c.if-not-word_between-3.false
+-- the tests before the last
+five : (c : Joined-word_between-3) → let b = c.args.book.now in c.if-word_between-3.value ≡ three b && power b && small b 2 && small b 3
+five c =
+    let b = c.args.book.now in
+    let e1 : c.if-word_between.value ≡ two b =
+    elim c.if-word_between.branch [
+      | then-word_between w ↦ made c.word_between.ensures w.if-word_between.true (ap (λ n. eqb (n % 2) 0) w.word_size.ensures.0) w.value-is
+      | else-word_between w ↦ not_made (even b) c.word_between.ensures w.if-word_between.false w.value-is
+    ] in
+    let e2 : c.if-word_size-eq0.value ≡ three b =
+    elim c.if-word_size-eq0.branch [
+      | then-word_size-eq0 w ↦ made e1 w.if-word_size-eq0.true w.word_between-then-word_size-eq0.ensures w.value-is
+      | else-word_size-eq0 w ↦ not_made (within (pos 1) (pos 128) (at b 1)) e1 w.if-word_size-eq0.false w.value-is
+    ] in
+    let e3 : c.if-word_between-2.value ≡ three b && power b =
+    elim c.if-word_between-2.branch [
+      | then-word_between-2 w ↦ made e2 w.if-word_between-2.true (w.power_of_two.ensures ∙ ap power_of_two w.word_size-then-word_between-2.ensures.0) w.value-is
+      | else-word_between-2 w ↦ not_made (power b) e2 w.if-word_between-2.false w.value-is
+    ] in
+    let e4 : c.if-power_of_two.value ≡ three b && power b && small b 2 =
+    elim c.if-power_of_two.branch [
+      | then-power_of_two w ↦ made e3 w.if-power_of_two.true w.word_between-then-power_of_two.ensures w.value-is
+      | else-power_of_two w ↦ not_made (small b 2) e3 w.if-power_of_two.false w.value-is
+    ] in
+    elim c.if-word_between-3.branch [
+      | then-word_between-3 w ↦ made e4 w.if-word_between-3.true w.word_between-then-word_between-3.ensures w.value-is
+      | else-word_between-3 w ↦ not_made (small b 3) e4 w.if-word_between-3.false w.value-is
+    ]
 
-decimation-within : (c : Else-not-word_between-4) → within (pos 0) (pos 40) (at c.before.before.before.before.before.before.before.before.before.before.before.before.before.args.book.now 3) ≡ true
-decimation-within c = test_holds c.before.word_between-4.ensures c.if-not-word_between-4.false
+pub returns-then-word_between-4 : goal.returns-then-word_between-4
+returns-then-word_between-4 c = made (five c.before.before) c.if-word_between-4.true c.word_between-then-word_between-4.ensures refl ∙ whole c.args.book.now
 
-pub word_between-requires : goal.word_between-requires
-word_between-requires c = has_word c (lit≤ tt)
-
-pub returns-then-not-word_between : goal.returns-then-not-word_between
-unfolding sizes_in_range sizes_of
-returns-then-not-word_between c = simp (test_fails c.before.word_between.ensures c.if-not-word_between.true)
-
-pub word_size-requires : goal.word_size-requires
-word_size-requires c = has_word c.before.before (lit≤ tt)
-
-pub returns-then-word_size-ne0 : goal.returns-then-word_size-ne0
-unfolding sizes_in_range sizes_of
-returns-then-word_size-ne0 c =
-    let odd : eqb (nat_abs (at c.before.before.before.before.args.book.now 0) % 2) 0 ≡ false = rw (← c.before.word_size.ensures.0) (ne_eqb _ _ c.if-word_size-ne0.true) in
-    simp (taps-within c.before.before, odd)
-
-pub word_between-requires-2 : goal.word_between-requires-2
-word_between-requires-2 c = has_word c.before.before.before.before (lit≤ tt)
-
-pub returns-then-not-word_between-2 : goal.returns-then-not-word_between-2
-unfolding sizes_in_range sizes_of
-returns-then-not-word_between-2 c =
-    let e2 = c.before.before in
-    simp (taps-within e2.before.before, taps-even e2, test_fails c.before.word_between-2.ensures c.if-not-word_between-2.true)
-
-pub word_size-requires-2 : goal.word_size-requires-2
-word_size-requires-2 c = has_word c.before.before.before.before.before.before (lit≤ tt)
-
-pub returns-then-not-power_of_two : goal.returns-then-not-power_of_two
-unfolding sizes_in_range sizes_of
-returns-then-not-power_of_two c =
-    let e3 = c.before.before.before in
-    let e2 = e3.before.before in
-    simp (taps-within e2.before.before, taps-even e2, phases-within e3, test_fails (power c.before) c.if-not-power_of_two.true)
-
-pub word_between-requires-3 : goal.word_between-requires-3
-word_between-requires-3 c = has_word c.before.before.before.before.before.before.before.before.before (lit≤ tt)
-
-pub returns-then-not-word_between-3 : goal.returns-then-not-word_between-3
-unfolding sizes_in_range sizes_of
-returns-then-not-word_between-3 c =
-    let e4 = c.before.before in
-    let e3 = e4.before.before.before in
-    let e2 = e3.before.before in
-    simp (taps-within e2.before.before, taps-even e2, phases-within e3, phases-power e4, test_fails c.before.word_between-3.ensures c.if-not-word_between-3.true)
-
-pub word_between-requires-4 : goal.word_between-requires-4
-word_between-requires-4 c = has_word c.before.before.before.before.before.before.before.before.before.before.before (lit≤ tt)
-
-pub returns-then-not-word_between-4 : goal.returns-then-not-word_between-4
-unfolding sizes_in_range sizes_of
-returns-then-not-word_between-4 c =
-    let e5 = c.before.before in
-    let e4 = e5.before.before in
-    let e3 = e4.before.before.before in
-    let e2 = e3.before.before in
-    simp (
-      taps-within e2.before.before,
-      taps-even e2,
-      phases-within e3,
-      phases-power e4,
-      reach-within e5,
-      test_fails c.before.word_between-4.ensures c.if-not-word_between-4.true,
-    )
-
-pub word_between-requires-5 : goal.word_between-requires-5
-word_between-requires-5 c = has_word c.before.before.before.before.before.before.before.before.before.before.before.before.before (lit≤ tt)
-
-pub returns : goal.returns
-unfolding sizes_in_range sizes_of
-returns c =
-    let e6 = c.before in
-    let e5 = e6.before.before in
-    let e4 = e5.before.before in
-    let e3 = e4.before.before.before in
-    let e2 = e3.before.before in
-    simp (taps-within e2.before.before, taps-even e2, phases-within e3, phases-power e4, reach-within e5, decimation-within e6) c.word_between-5.ensures
+pub returns-else-word_between-4 : goal.returns-else-word_between-4
+returns-else-word_between-4 c = let b = c.args.book.now in not_made (within (pos 1) (pos 256) (at b 4)) (five c.before) c.if-word_between-4.false refl ∙ whole b

@@ -1,14 +1,23 @@
 -- `book::sums::sums_in_range` meets its contract. Assumes nothing.
-use Rattle.arith.proofs.Tests.{test_fails, test_holds}
-use Rattle.book.specs.Check.{sums_in_range}
+use Rattle.std.proofs.Common.{leb, refl, ap, ◌∙◌, sym}
+use Rattle.arith.specs.Tests.{every}
+use Rattle.book.specs.Book.{level_taps, decimation_taps}
+use Rattle.book.specs.Check.{phase_sum, tap_sum, sums_in_range}
+use Rattle.book.proofs.Chained.{made, not_made, &&-assoc}
 use Rattle.book.proofs.sums.sums_in_range.Goals as goal
 
-pub returns-then-not-phases_in_range : goal.returns-then-not-phases_in_range
+pub returns-then-phases_in_range : goal.returns-then-phases_in_range
 unfolding sums_in_range
-returns-then-not-phases_in_range c = simp (rw c.before.before.requires.phases_value.0 at (test_fails c.before.phases_in_range.ensures c.if-not-phases_in_range.true))
+returns-then-phases_in_range c =
+    let p = c.args.book.now in
+    let b = p.words.now in
+    let phases = c.phases_in_range.ensures ∙ ap (λ s. every s.phases (λ q. leb (phase_sum b q) 65536)) p.read in
+    made phases c.if-phases_in_range.true c.tap_sums_within.ensures refl ∙ sym (&&-assoc _ (leb (tap_sum (level_taps b)) 32768) (leb (tap_sum (decimation_taps b)) 32768))
 
-pub returns : goal.returns
+pub returns-else-phases_in_range : goal.returns-else-phases_in_range
 unfolding sums_in_range
-returns c =
-    let e = c.before in
-    simp (rw e.before.before.requires.phases_value.0 at (test_holds e.before.phases_in_range.ensures e.if-not-phases_in_range.false)) c.tap_sums_within.ensures
+returns-else-phases_in_range c =
+    let p = c.args.book.now in
+    let b = p.words.now in
+    let phases = c.phases_in_range.ensures ∙ ap (λ s. every s.phases (λ q. leb (phase_sum b q) 65536)) p.read in
+    not_made _ phases c.if-phases_in_range.false refl ∙ sym (&&-assoc _ (leb (tap_sum (level_taps b)) 32768) (leb (tap_sum (decimation_taps b)) 32768))

@@ -1,33 +1,40 @@
--- `book::sums::tap_sum` meets its contract. The loop's invariant: the sum is that of the taps 1 to k − 1. Assumes nothing.
-use Rattle.std.proofs.Common.{◌≡◌, ℕ, suc, pred, ◌+◌, ◌-◌, ◌≤◌, List, length, ℤ, nat_abs, sym, refl, ap, arith}
-use Rattle.arith.specs.Lists.{at}
+-- `book::sums::tap_sum` meets its contract. Assumes nothing.
+use Rattle.std.proofs.Common.{rules, ◌≡◌, ℕ, suc, pred, ◌+◌, ◌-◌, ◌*◌, ◌<◌, ◌≤◌, List, length, ℤ, nat_abs, sym, refl, ap, ap₂, ◌∙◌, arith, w32, SFits}
+use Rattle.arith.specs.Lists.{at, part}
 use Rattle.arith.specs.Sum.{total}
+use Rattle.arith.proofs.Bits.{reads}
+use Rattle.arith.proofs.Lists.{part_length, at_part}
 use Rattle.arith.proofs.Sum.{total_more}
 use Rattle.book.specs.Check.{tap_sum}
-use Rattle.book.proofs.sums.tap_sum.Invariants.{side}
 use Rattle.book.proofs.sums.tap_sum.Goals as goal
 
-pub loop-k-init : goal.loop-k-init
+side_length : (taps : List ℤ) → 1 ≤ length taps → length (part taps 1 (length taps - 1)) ≡ length taps - 1
+side_length taps h = part_length taps 1 (length taps - 1) (omega arith)
+
+at_side : (taps : List ℤ) (k : ℕ) → k < length taps - 1 → at (part taps 1 (length taps - 1)) k ≡ at taps (suc k)
+at_side taps k h = let e : 1 + k ≡ suc k = omega arith in at_part taps 1 (length taps - 1) k h ∙ ap (at taps) e
+
+pub loop-tap-init : goal.loop-tap-init
 unfolding total
-loop-k-init c = (omega arith, omega arith, refl, omega arith)
+loop-tap-init c = (refl, omega arith)
 
--- one tap more, tap k being number k − 1 of those beside the centre
-more : (taps : List ℤ) (k : ℕ) → 1 ≤ k → total (k - 1) (side taps) + nat_abs (at taps k) ≡ total (k + 1 - 1) (side taps)
-more taps k h =
-    let e : k + 1 - 1 ≡ (k - 1) + 1 = omega arith in
-    let f : suc (k - 1) ≡ k = omega arith in
-    rw (e, total_more (k - 1) (side taps)) (ap (λ j. total (k - 1) (side taps) + nat_abs (at taps j)) (sym f))
-
-pub loop-k-preserved : goal.loop-k-preserved
-loop-k-preserved c =
-    let l = c.before.before in
-    let e : l.loop-k.sum + c.word_size-sum.result ≡ total (l.loop-k.k + 1 - 1) (side l.before.args.taps.now) = rw (l.loop-k.invariant.2, c.word_size-sum.ensures.0) (more l.before.args.taps.now l.loop-k.k l.loop-k.invariant.0) in
-    (omega arith, omega arith, e, omega arith)
+pub loop-tap-preserved : goal.loop-tap-preserved
+loop-tap-preserved c =
+    let l = c.loop-tap in
+    let taps = c.args.taps.now in
+    let size : ℕ → ℕ = λ k. nat_abs (at taps (suc k)) in
+    let fits : SFits w32 (at (part taps 1 (length taps - 1)) l.tap-index) = search rules in
+    let inside : l.tap-index < length taps - 1 = omega (arith, side_length taps c.requires.0) in
+    let word = (simp (reads, fits) at c.unsigned_abs.ensures.value) ∙ ap nat_abs (at_side taps l.tap-index inside) in
+    (ap₂ ◌+◌ l.invariant.0 word ∙ sym (total_more l.tap-index size), omega (arith, c.unsigned_abs.ensures.bound))
 
 pub returns : goal.returns
 unfolding tap_sum
 returns c =
-    let l = c.before.before.loop-k in
-    let t = c.before.before.before.args.taps.now in
-    let e : l.k - 1 ≡ pred (length t) = omega arith in
-    simp (c.word_size.ensures.0, l.invariant.2, e)
+    let l = c.loop-tap in
+    let taps = c.args.taps.now in
+    let fits : SFits w32 (at taps 0) = search rules in
+    let all : l.tap-index ≡ pred (length taps) = omega (arith, side_length taps c.requires.0) in
+    let centre = simp (reads, fits) at c.unsigned_abs-2.ensures.value in
+    let side = l.invariant.0 ∙ ap (λ n. total n (λ k. nat_abs (at taps (suc k)))) all in
+    ap₂ (λ x y. x + 2 * y) centre side

@@ -5,10 +5,10 @@ use Rattle.arith.proofs.Tests.{tests}
 use Rattle.control.specs.Moves.{point_plan}
 use Rattle.control.proofs.moves.point_plan.Goals as goal
 
-pub returns-then-from-to : goal.returns-then-from-to
+pub returns-then-old-new : goal.returns-then-old-new
 unfolding point_plan
-returns-then-from-to c = search (tests, sym c.before.fade_target-to.ensures)
+returns-then-old-new c = search (tests, sym c.fade_target-new.ensures)
 
-pub returns : goal.returns
+pub returns-else-old-new : goal.returns-else-old-new
 unfolding point_plan
-returns c = search (tests, add-one, sym c.before.before.fade_target-to.ensures)
+returns-else-old-new c = search (tests, add-one, sym c.fade_target-new.ensures)

@@ -1,24 +1,8 @@
--- `control::rate::octave_level` meets its contract: the code makes the definition's tests, in their order. Assumes nothing.
-use Rattle.arith.proofs.Tests.{tests}
-use Rattle.control.specs.Rate.{octave_level}
+-- `control::rate::octave_level` meets its contract: the logarithm, at most 4, is the level that the definition's tests find. Assumes nothing.
+use mathlib.Core.Path.{ap, ◌∙◌}
+use Prim.Native.Nat.{min}
+use Rattle.control.proofs.Rates.{octave_is}
 use Rattle.control.proofs.rate.octave_level.Goals as goal
 
-pub returns-then-rate-lt268435456 : goal.returns-then-rate-lt268435456
-unfolding octave_level
-returns-then-rate-lt268435456 c = search tests
-
-pub returns-then-rate-lt536870912 : goal.returns-then-rate-lt536870912
-unfolding octave_level
-returns-then-rate-lt536870912 c = search tests
-
-pub returns-then-rate-lt1073741824 : goal.returns-then-rate-lt1073741824
-unfolding octave_level
-returns-then-rate-lt1073741824 c = search tests
-
-pub returns-then-rate-lt2147483648 : goal.returns-then-rate-lt2147483648
-unfolding octave_level
-returns-then-rate-lt2147483648 c = search tests
-
 pub returns : goal.returns
-unfolding octave_level
-returns c = search tests
+returns c = c.min.ensures ∙ octave_is c.args.rate c.max.result c.ilog2.result c.max.ensures c.ilog2.ensures.power_le c.ilog2.ensures.next_power_gt

@@ -6,8 +6,8 @@ use Rattle.control.proofs.rate.rate_in_range.Goals as goal
 
 pub returns-then-r : goal.returns-then-r
 unfolding of_bits
-returns-then-r c = ap (lt c.before.before.args.r) c.rate_end.ensures ∙ below_top _ _ c.before.if-r.true
+returns-then-r c = ap (lt c.args.r) c.rate_end.ensures ∙ below_top _ _ c.if-r.true
 
 pub returns-else-r : goal.returns-else-r
 unfolding of_bits
-returns-else-r c = not-below _ _ c.if-r.false
+returns-else-r c = c.if-r.false ∙ not-below _ _ c.if-r.false

@@ -2,7 +2,7 @@
 -- on, and `length` is that of level j. T and S are written in front of them. Assumes nothing.
 use mathlib.Core.List.{List}
 use mathlib.Core.Path.{◌≡◌}
-use Prim.Native.Nat.{ℕ, suc, ◌-◌, ◌≤◌}
+use Prim.Native.Nat.{ℕ, suc}
 use lib.IntN.{ℤ, pos}
 use lib.Seq.{paste}
 use Rattle.arith.specs.Lists.{tabulate}
@@ -14,7 +14,4 @@ abbrev pub lengths_of : ℕ → ℕ → List ℤ
 lengths_of S T = tabulate (suc T) (λ j. pos (level_length S j))
 
 abbrev pub invariant-loop-level : goal.invariant-loop-level
-invariant-loop-level l = (l.level ≤ l.lengths) × (l.length ≡ level_length l.recorded l.level) × (l.store ≡ paste l.initial.store 2 (lengths_of l.recorded l.top) l.level)
-
-abbrev pub decreases-loop-level : goal.decreases-loop-level
-decreases-loop-level l = l.lengths - l.level
+invariant-loop-level l = (l.length ≡ level_length l.recorded l.level) × (l.store ≡ paste l.initial.store 2 (lengths_of l.recorded l.top) l.level)

@@ -1,37 +1,27 @@
--- `levels::writer::write_levels` meets its contract. The loop's invariant: level j begins at `start` and has `length` words, and the store is as it
--- was, with levels 0..j written at its front. Assumes nothing.
+-- `levels::writer::write_levels` meets its contract. Assumes nothing.
 use mathlib.Core.Path.{◌≡◌, sym, ap, ap₂, ◌∙◌}
 use mathlib.Core.List.{List}
-use Prim.Native.Nat.{ℕ, ◌+◌, ◌^◌, ◌≤◌}
+use Prim.Native.Nat.{ℕ, ◌+◌, ◌^◌, ◌≤◌, ◌<◌}
 use native.Mathlib.Nat.{le_refl, le_trans, pow-le-pow_right}
 use native.Mathlib.Omega.{arith}
 use lib.IntN.{ℤ, nat_abs}
 use lib.ListN.{length, drop}
 use Rattle.arith.specs.Lists.{at, part, overwrite}
+use Rattle.book.specs.Check.{tap_sum}
 use Rattle.octave.specs.Octave.{half_length, next_level}
-use Rattle.store.specs.Sizes.{levels_below}
+use Rattle.store.specs.Sizes.{level_length, levels_below}
 use Rattle.levels.specs.Levels.{level_of, levels_of}
 use Rattle.store.proofs.Lengths.{level_length-zero, level_length_more, levels_below-zero, levels_below_more, levels_below_mono}
 use Rattle.arith.proofs.Parts.{overwrite_again, length-overwrite}
 use Rattle.levels.proofs.Laws.{length_first, length_levels, level_bound, levels_zero, level_begins, levels_more}
 use Rattle.levels.proofs.writer.write_levels.Goals as goal
-use Rattle.levels.proofs.writer.write_levels.Goals.{After-first_level, After-next_level, At-loop-j, In-loop-j, Start}
 
-module _ (s : Start) where
-  abbrev taps : List ℤ
-  taps = s.args.taps.now
-
-  abbrev samples : List ℤ
-  samples = s.args.samples.now
-
-  abbrev given : List ℤ
-  given = s.args.store.now
-
+module _ (taps samples given : List ℤ) (top : ℕ) (room : levels_below (length samples) (top + 1) ≤ length given) where
   -- levels 0..j have room in the store
-  room : (j : ℕ) → j ≤ s.args.top → length (levels_of taps samples j) ≤ length given
-  room j h =
-      let e : j + 1 ≤ s.args.top + 1 = omega arith in
-      omega (arith, length_levels taps samples j, levels_below_mono (length samples) e)
+  fits : (j : ℕ) → j ≤ top → length (levels_of taps samples j) ≤ length given
+  fits j h =
+      let e : j + 1 ≤ top + 1 = omega arith in
+      omega (arith, length_levels taps samples j, levels_below_mono (length samples) e, room)
 
   -- they cover level 0, which is written first
   longer : (j : ℕ) → length (levels_of taps samples 0) ≤ length (levels_of taps samples j)
@@ -39,106 +29,118 @@ module _ (s : Start) where
       let h : 0 + 1 ≤ j + 1 = omega arith in
       omega (arith, length_levels taps samples 0, length_levels taps samples j, levels_below_mono (length samples) h)
 
--- after level 0
-module _ (c : After-first_level) where
-  abbrev s : Start
-  s = c.before.before
+  module _ (first : List ℤ) (first_is : first ≡ overwrite given 0 (levels_of taps samples 0)) where
+    -- what is written over level 0 is written over the store that was given
+    over_first : (j : ℕ) → overwrite first 0 (levels_of taps samples j) ≡ overwrite given 0 (levels_of taps samples j)
+    over_first j =
+        ap (λ xs. overwrite xs 0 (levels_of taps samples j)) first_is
+        ∙ overwrite_again given (levels_of taps samples 0) (levels_of taps samples j) (longer j)
 
-  abbrev first : List ℤ
-  first = c.first_level.new.store
+    -- at each turn
+    module _ (j start long : ℕ) (store : List ℤ) (inside : j ≤ top) (start_is : start ≡ levels_below (length samples) j) (long_is : long ≡ level_length (length samples) j)
+        (now : store ≡ overwrite first 0 (levels_of taps samples j)) where
+      store_is : store ≡ overwrite given 0 (levels_of taps samples j)
+      store_is = now ∙ over_first j
 
-  first-is : first ≡ overwrite (given s) 0 (levels_of (taps s) (samples s) 0)
-  first-is = c.first_level.ensures.store_after ∙ ap (overwrite (given s) 0) (sym (levels_zero (taps s) (samples s)))
+      store_length : length store ≡ length given
+      store_length = ap length store_is ∙ length-overwrite given (levels_of taps samples j) 0 (omega (arith, fits j inside))
 
-  -- what is written over level 0 is written over the store that was given
-  over_first : (j : ℕ) → overwrite first 0 (levels_of (taps s) (samples s) j) ≡ overwrite (given s) 0 (levels_of (taps s) (samples s) j)
-  over_first j =
-      ap (λ xs. overwrite xs 0 (levels_of (taps s) (samples s) j)) first-is
-      ∙ overwrite_again (given s) (levels_of (taps s) (samples s) 0) (levels_of (taps s) (samples s) j) (longer s j)
+      level_now : part store start long ≡ level_of taps samples j
+      level_now =
+          ap (λ xs. part xs start long) store_is
+          ∙ ap₂ (λ m n. part (overwrite given 0 (levels_of taps samples j)) m n) start_is long_is
+          ∙ level_begins taps samples (drop (0 + length (levels_of taps samples j)) given) j j (le_refl j)
 
--- at each turn
-module _ (a : At-loop-j) where
-  abbrev f : After-first_level
-  f = a.before.before
+      -- the level above lies in the store
+      next_fits : j < top → start + long + half_length long ≤ length given
+      next_fits more =
+          let h : j + 1 + 1 ≤ top + 1 = omega arith in
+          omega (arith, levels_below_more (length samples) j, start_is, long_is, ap half_length long_is, level_length_more (length samples) j, levels_below_more (length samples) (j + 1), levels_below_mono (length samples) h, room)
 
-  abbrev S : ℕ
-  S = length (samples (s f))
+      level_small : tap_sum taps ≤ 32768 → ((k : ℕ) → nat_abs (at samples k) ≤ 2 ^ 15) → top ≤ 4 → j < top → (k : ℕ) → nat_abs (at (part store start long) k) ≤ 2 ^ 26
+      level_small few small four more k =
+          let h : 23 + j ≤ 26 = omega arith in
+          rw level_now (le_trans (level_bound taps samples few small j k) (pow-le-pow_right (omega arith) h))
 
-  abbrev j : ℕ
-  j = a.loop-j.j
+      next_start : start + long ≡ levels_below (length samples) (j + 1)
+      next_start = omega (arith, start_is, long_is, levels_below_more (length samples) j)
 
-  store_is : a.loop-j.store ≡ overwrite (given (s f)) 0 (levels_of (taps (s f)) (samples (s f)) j)
-  store_is = a.loop-j.invariant.3 ∙ over_first f j
-
-  store_length : length a.loop-j.store ≡ length (given (s f))
-  store_length = ap length store_is ∙ length-overwrite (given (s f)) (levels_of (taps (s f)) (samples (s f)) j) 0 (omega (arith, room (s f) j a.loop-j.invariant.0))
-
-  level_now : part a.loop-j.store a.loop-j.start a.loop-j.length ≡ level_of (taps (s f)) (samples (s f)) j
-  level_now =
-      ap (λ xs. part xs a.loop-j.start a.loop-j.length) store_is
-      ∙ ap₂ (λ m n. part (overwrite (given (s f)) 0 (levels_of (taps (s f)) (samples (s f)) j)) m n) a.loop-j.invariant.1 a.loop-j.invariant.2
-      ∙ level_begins (taps (s f)) (samples (s f)) (drop (0 + length (levels_of (taps (s f)) (samples (s f)) j)) (given (s f))) j j (le_refl j)
-
-  -- the end of level j
-  end_is : a.loop-j.start + a.loop-j.length ≡ levels_below S (j + 1)
-  end_is = omega (arith, levels_below_more S j)
-
--- in a turn
-module _ (t : In-loop-j) where
-  abbrev a : At-loop-j
-  a = t.before
-
-  next_fits : a.loop-j.start + a.loop-j.length + half_length a.loop-j.length ≤ length (given (s (f a)))
-  next_fits =
-      let h : j a + 1 + 1 ≤ (s (f a)).args.top + 1 = omega arith in
-      omega (arith, end_is a, ap half_length a.loop-j.invariant.2, level_length_more (S a) (j a), levels_below_more (S a) (j a + 1), levels_below_mono (S a) h)
-
-  level_small : (k : ℕ) → nat_abs (at (level_of (taps (s (f a))) (samples (s (f a))) (j a)) k) ≤ 2 ^ 26
-  level_small k =
-      let h : 23 + j a ≤ 26 = omega arith in
-      le_trans (level_bound (taps (s (f a))) (samples (s (f a))) (s (f a)).requires.in_bounds.2 (f a).first_level.ensures.by_index (j a) k) (pow-le-pow_right (omega arith) h)
-
--- after the call in it
-written : (c : After-next_level) → let a = c.before.before.before in c.next_level.new.store ≡ overwrite (first (f a)) 0 (levels_of (taps (s (f a))) (samples (s (f a))) (j a + 1))
-written c =
-    let a = c.before.before.before in
-    let i = a.loop-j.invariant in
-    ◌∙◌ {b = overwrite a.loop-j.store (a.loop-j.start + a.loop-j.length) (next_level (taps (s (f a))) (part a.loop-j.store a.loop-j.start a.loop-j.length))} c.next_level.ensures
-    (levels_more (taps (s (f a))) (samples (s (f a))) (first (f a)) (j a) i.3 i.1 i.2)
+      next_long : half_length long ≡ level_length (length samples) (j + 1)
+      next_long = ap half_length long_is ∙ sym (level_length_more (length samples) j)
 
 pub first_level-requires : goal.first_level-requires
 first_level-requires c =
-    let h : 0 ≤ c.before.args.top = omega arith in
-    omega (arith, room c.before 0 h, ap length (levels_zero (taps c.before) (samples c.before)), length_first (samples c.before))
+    let taps = c.args.taps.now.words.now in
+    let samples = c.args.samples.now in
+    omega (arith, fits taps samples c.args.store.now c.args.top c.requires.room.2 0 (omega arith), ap length (levels_zero taps samples), length_first samples)
 
-pub loop-j-init : goal.loop-j-init
-loop-j-init c =
-    let f = c.before in
-    let S = length (samples (s f)) in
-    (omega arith, sym (levels_below-zero S), sym (level_length-zero S), first-is f ∙ sym (over_first f 0))
+pub loop-level-init : goal.loop-level-init
+loop-level-init c =
+    let taps = c.args.taps.now.words.now in
+    let samples = c.args.samples.now in
+    let given = c.args.store.now in
+    let top = c.args.top in
+    let room = c.requires.room.2 in
+    let first = c.first_level.new.store in
+    let first_is : first ≡ overwrite given 0 (levels_of taps samples 0) = c.first_level.ensures.written ∙ ap (overwrite given 0) (sym (levels_zero taps samples)) in
+    (sym (levels_below-zero (length samples)), sym (level_length-zero (length samples)), first_is ∙ sym (over_first taps samples given top room first first_is 0))
 
-pub next_level-requires : goal.next_level-requires
-next_level-requires c =
-    let t = c.before in
-    let p = (s (f (a t))).requires.in_bounds in record { in_bounds = (p.0, p.1, p.2, omega (arith, store_length (a t), next_fits t)); by_index = λ k. rw (level_now (a t)) (level_small t k) }
+pub write_next-requires : goal.write_next-requires
+write_next-requires c =
+    let taps = c.args.taps.now.words.now in
+    let samples = c.args.samples.now in
+    let given = c.args.store.now in
+    let top = c.args.top in
+    let room = c.requires.room.2 in
+    let first = c.first_level.new.store in
+    let first_is : first ≡ overwrite given 0 (levels_of taps samples 0) = c.first_level.ensures.written ∙ ap (overwrite given 0) (sym (levels_zero taps samples)) in
+    let j = c.loop-level._level in
+    let i = c.loop-level.invariant in
+    record {
+      room = omega (arith, next_fits taps samples given top room first first_is j c.loop-level.start c.loop-level.length c.loop-level.store (omega arith) i.0 i.1 i.2 c.loop-level-test.true, store_length taps samples given top room first first_is j c.loop-level.start c.loop-level.length c.loop-level.store (omega arith) i.0 i.1 i.2);
+      small = level_small taps samples given top room first first_is j c.loop-level.start c.loop-level.length c.loop-level.store (omega arith) i.0 i.1 i.2 c.args.taps.now.bounded c.first_level.ensures.small c.requires.room.1 c.loop-level-test.true;
+    }
 
 pub overflow_add-start : goal.overflow_add-start
-overflow_add-start c = let t = c.before.before.before in omega (arith, next_fits t)
+overflow_add-start c =
+    let taps = c.args.taps.now.words.now in
+    let samples = c.args.samples.now in
+    let given = c.args.store.now in
+    let top = c.args.top in
+    let room = c.requires.room.2 in
+    let first = c.first_level.new.store in
+    let first_is : first ≡ overwrite given 0 (levels_of taps samples 0) = c.first_level.ensures.written ∙ ap (overwrite given 0) (sym (levels_zero taps samples)) in
+    let j = c.loop-level._level in
+    let i = c.loop-level.invariant in
+    omega (arith, next_fits taps samples given top room first first_is j c.loop-level.start c.loop-level.length c.loop-level.store (omega arith) i.0 i.1 i.2 c.loop-level-test.true)
 
-pub loop-j-preserved : goal.loop-j-preserved
-loop-j-preserved c =
-    let a = c.before.before.before.before.before in (
-      omega arith,
-      omega (arith, levels_below_more (S a) (j a)),
-      c.half_length-length.ensures ∙ ap half_length a.loop-j.invariant.2 ∙ sym (level_length_more (S a) (j a)),
-      written c.before.before,
+pub loop-level-preserved : goal.loop-level-preserved
+loop-level-preserved c =
+    let taps = c.args.taps.now.words.now in
+    let samples = c.args.samples.now in
+    let given = c.args.store.now in
+    let top = c.args.top in
+    let room = c.requires.room.2 in
+    let first = c.first_level.new.store in
+    let first_is : first ≡ overwrite given 0 (levels_of taps samples 0) = c.first_level.ensures.written ∙ ap (overwrite given 0) (sym (levels_zero taps samples)) in
+    let j = c.loop-level._level in
+    let i = c.loop-level.invariant in (
+      next_start taps samples given top room first first_is j c.loop-level.start c.loop-level.length c.loop-level.store (omega arith) i.0 i.1 i.2,
+      c.half_length-length.ensures ∙ next_long taps samples given top room first first_is j c.loop-level.start c.loop-level.length c.loop-level.store (omega arith) i.0 i.1 i.2,
+      ◌∙◌ {b = overwrite c.loop-level.store (c.loop-level.start + c.loop-level.length) (next_level taps (part c.loop-level.store c.loop-level.start c.loop-level.length))} c.write_next.ensures
+          (levels_more taps samples first j i.2 i.0 i.1),
     )
-
-pub shape_of-store : goal.shape_of-store
-shape_of-store c = store_length c.before
 
 pub returns : goal.returns
 returns c =
-    let a = c.before in
-    let e : j a ≡ (s (f a)).args.top = omega arith in
-    store_is a ∙ ap (λ T. overwrite (given (s (f a))) 0 (levels_of (taps (s (f a))) (samples (s (f a))) T)) e
+    let taps = c.args.taps.now.words.now in
+    let samples = c.args.samples.now in
+    let given = c.args.store.now in
+    let top = c.args.top in
+    let room = c.requires.room.2 in
+    let first = c.first_level.new.store in
+    let first_is : first ≡ overwrite given 0 (levels_of taps samples 0) = c.first_level.ensures.written ∙ ap (overwrite given 0) (sym (levels_zero taps samples)) in
+    let j = c.loop-level._level in
+    let i = c.loop-level.invariant in
+    let e : j ≡ top = omega arith in
+    store_is taps samples given top room first first_is j c.loop-level.start c.loop-level.length c.loop-level.store (omega arith) i.0 i.1 i.2 ∙ ap (λ T. overwrite given 0 (levels_of taps samples T)) e

@@ -1,13 +1,9 @@
 -- `marshal::words::high_word` meets its contract. Assumes nothing.
-use borrow.Author.Rules.{rules}
-use mir.Syntax.{w32}
-use mir.Val.{SFits}
-use Rattle.arith.proofs.Bits.{reads}
+use Rattle.std.proofs.Common.{◌/◌, ◌^◌, arith}
 use Rattle.marshal.specs.Words.{high_word}
+use Rattle.marshal.proofs.Crossing.{signed_bits}
 use Rattle.marshal.proofs.words.high_word.Goals as goal
 
 pub returns : goal.returns
 unfolding high_word
-returns c =
-    let fits : SFits w32 c.signed.result = search rules in
-    simp (reads, fits) c.signed.ensures
+returns c = signed_bits (c.args.x / 2 ^ 32) c.cast_signed.result (record { fits = omega arith }) c.cast_signed.ensures

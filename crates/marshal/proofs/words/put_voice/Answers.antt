@@ -1,9 +1,8 @@
--- `marshal::words::put_voice` meets its contract. Assumes nothing.
-use mathlib.Core.Path.{ap, ◌∙◌}
-use mathlib.Core.List.{◌++◌}
+-- `marshal::words::put_voice` meets its contract: 14 words and 81 behind them are all 95. Assumes nothing.
+use Rattle.std.proofs.Common.{◌++◌, ap₂, ◌∙◌}
 use Rattle.marshal.specs.Words.{words_of}
 use Rattle.marshal.proofs.words.put_voice.Goals as goal
 
 pub returns : goal.returns
 unfolding words_of
-returns c = c.put_parts.ensures ∙ ap (λ head. head ++ c.args.v.history) c.control_words-head.ensures
+returns c = ap₂ (λ head points. head ++ points) (c.copy_from_slice.ensures.after ∙ c.control_words.ensures) c.copy_from_slice-2.ensures.after

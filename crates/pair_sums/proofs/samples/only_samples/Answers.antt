@@ -1,54 +1,31 @@
--- `pair_sums::samples::only_samples` meets its contract. The loop's invariant: the words passed are samples. Assumes nothing.
-use mathlib.Core.Path.{◌≡◌}
-use Prim.Native.Nat.{ℕ, suc, ◌+◌, ◌-◌, ◌<◌}
-use native.Mathlib.Decide.{dec_le}
-use native.Mathlib.Omega.{arith}
-use lib.IntN.{pos, ◌*ℤ◌}
-use lib.ListN.{length}
+-- `pair_sums::samples::only_samples` meets its contract. Assumes nothing.
+use Rattle.std.proofs.Common.{◌≡◌, sym, subst, ℕ, zero, suc, ◌≤◌, ◌^◌, List, [], ◌∷◌, ◌++◌, length, ℤ, nat_abs, arith}
+use Rattle.std.specs.Slice.Iter.{chunks_rest}
 use Rattle.arith.specs.Lists.{at}
 use Rattle.arith.proofs.Lists.{at_outside}
-use Rattle.pair_sums.specs.Pairs.{sample_part}
+use Rattle.pair_sums.specs.Pairs.{Samples}
 use Rattle.pair_sums.proofs.SampleBits.{sample_none}
 use Rattle.pair_sums.proofs.samples.only_samples.Goals as goal
-use Rattle.pair_sums.proofs.samples.only_samples.Goals.{At-loop-i}
 
--- at each turn
-module _ (a : At-loop-i) where
-  abbrev i : ℕ
-  i = a.loop-i.i
+-- samples in front and behind
+both : (xs ys : List ℤ) → Samples xs → Samples ys → Samples (xs ++ ys)
+both [] ys front back k = back k
+both (x ∷ xs) ys front back zero = front 0
+both (x ∷ xs) ys front back (suc k) = both xs ys (λ i. front (suc i)) back k
 
-  abbrev sample : ℕ → Type 0
-  sample k = at a.before.args.level.now k ≡ pos 256 *ℤ sample_part (at a.before.args.level.now k)
+behind : (P : ℤ → Type 0) (xs ys : List ℤ) → ((k : ℕ) → P (at (xs ++ ys) k)) → (k : ℕ) → P (at ys k)
+behind P [] ys all k = all k
+behind P (x ∷ xs) ys all k = behind P xs ys (λ i. all (suc i)) k
 
-  -- with those of one call more
-  passed : (n : ℕ) → ((j : ℕ) → j < n → sample (i + j)) → (k : ℕ) → k < i + n → sample k
-  passed n more k l = go (dec_le (suc k) i)
-    where
-      go : Dec (k < i) → sample k
-      go (yes b) = a.loop-i.invariant.1 k b
-      go (no b) = let e : i + (k - i) ≡ k = omega arith in rw e at (more (k - i) (omega arith))
+none_left : (xs : List ℤ) → length xs ≡ 0 → Samples xs
+none_left xs e k = rw (at_outside xs k (omega arith)) sample_none
 
-  every : (n : ℕ) → i + n ≡ length a.before.args.level.now → ((j : ℕ) → j < n → sample (i + j)) → (k : ℕ) → sample k
-  every n all more k = go (dec_le (suc k) (i + n))
-    where
-      go : Dec (k < i + n) → sample k
-      go (yes b) = passed n more k b
-      go (no b) = rw (at_outside a.before.args.level.now k (omega arith)) sample_none
-
-pub loop-i-init : goal.loop-i-init
-loop-i-init c = (omega arith, λ k l. absurd (omega arith))
-
-pub samples_from-requires : goal.samples_from-requires
-samples_from-requires c = record { count_in_bounds = omega arith; by_index = c.before.before.requires }
-
-pub returns-then-not-samples_from : goal.returns-then-not-samples_from
-returns-then-not-samples_from c e = let z : ◌≡◌ {A = ℕ} 0 1 = cc in absurd (omega arith)
-
-pub loop-i-preserved : goal.loop-i-preserved
-loop-i-preserved c = let a = c.before.before.before in (omega arith, passed a 256 (c.before.samples_from.ensures c.if-not-samples_from.false))
-
-pub samples_from-requires-2 : goal.samples_from-requires-2
-samples_from-requires-2 c = record { count_in_bounds = omega arith; by_index = c.before.before.requires }
+pub loop-words-preserved : goal.loop-words-preserved
+loop-words-preserved c =
+    let e = c.in-Some.ensures.steps.1.0 in (
+      behind (λ x. nat_abs x ≤ 2 ^ 26) c.in-Some.words.now (chunks_rest c.next.new.self) (λ k. subst (λ z. nat_abs (at z k) ≤ 2 ^ 26) e (c.loop-words.invariant.0 k)),
+      λ back. c.loop-words.invariant.1 (subst Samples (sym e) (both c.in-Some.words.now (chunks_rest c.next.new.self) (c.are_samples.ensures c.if-not-are_samples.false) back)),
+    )
 
 pub returns : goal.returns
-returns c e = let a = c.before.before in every a (length a.before.args.level.now - i a) (omega arith) (c.samples_from-2.ensures e)
+returns c e = c.loop-words.invariant.1 (none_left (chunks_rest c.loop-words.words-iterator) c.in-None.ensures.steps.1.0)

@@ -1,14 +1,9 @@
--- `pair_sums::samples::only_samples` meets its contract. The loop's invariant: the words passed are samples. Assumes nothing.
-use mathlib.Core.Path.{◌≡◌}
-use Prim.Native.Nat.{ℕ, ◌-◌, ◌≤◌, ◌<◌}
-use lib.IntN.{pos, ◌*ℤ◌}
-use lib.ListN.{length}
+-- `pair_sums::samples::only_samples` meets its contract. The loop's invariant: if the words that are left are samples, all are. Assumes nothing.
+use Rattle.std.proofs.Common.{ℕ, ◌≤◌, ◌^◌, nat_abs}
+use Rattle.std.specs.Slice.Iter.{chunks_rest}
 use Rattle.arith.specs.Lists.{at}
-use Rattle.pair_sums.specs.Pairs.{sample_part}
+use Rattle.pair_sums.specs.Pairs.{Samples}
 use Rattle.pair_sums.proofs.samples.only_samples.Given as goal
 
-abbrev pub invariant-loop-i : goal.invariant-loop-i
-invariant-loop-i l = (l.i ≤ length l.level) × ((k : ℕ) → k < l.i → at l.level k ≡ pos 256 *ℤ sample_part (at l.level k))
-
-abbrev pub decreases-loop-i : goal.decreases-loop-i
-decreases-loop-i l = length l.level - l.i
+abbrev pub invariant-loop-words : goal.invariant-loop-words
+invariant-loop-words l = ((k : ℕ) → nat_abs (at (chunks_rest l.words-iterator) k) ≤ 2 ^ 26) × (Samples (chunks_rest l.words-iterator) → Samples l.level)

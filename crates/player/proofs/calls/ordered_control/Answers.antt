@@ -3,7 +3,7 @@ use mathlib.Core.Path.{◌≡◌, sym, ap, ◌∙◌}
 use mathlib.Core.Bool.{true}
 use Prim.Native.Nat.{ℕ, ◌≤◌}
 use lib.Ieee.{Float}
-use Rattle.book.proofs.Numbers.{none_first, not_refused}
+use Rattle.refusal.proofs.Numbers.{none_first, not_refused}
 use Rattle.control.specs.declared.Order.TheVariants.{Jump, Glide}
 use Rattle.control.specs.Rate.{rate_in_range}
 use Rattle.control.specs.Moves.{jumped, gliding}
@@ -21,16 +21,16 @@ glide_rate_lem : (T : ℕ) (r : Float) (count : ℕ) → T ≤ 4 → order_input
 unfolding order_input_number
 glide_rate_lem T r count h e = rate_wider r T 4 h (not_refused 9 _ (none_first _ _ e))
 
-pub scaled_rate-rate-requires : goal.scaled_rate-rate-requires
-scaled_rate-rate-requires c = jump_rate _ _ c.requires.0 (ap (order_input_number _) (sym c.in-Jump.is) ∙ c.requires.1)
+pub scaled_rate-requires : goal.scaled_rate-requires
+scaled_rate-requires c = jump_rate _ _ c.requires.0 (ap (order_input_number _) (sym c.in-Jump.is) ∙ c.requires.1)
 
-pub scaled_rate-end-requires : goal.scaled_rate-end-requires
-scaled_rate-end-requires c = glide_rate_lem _ _ _ c.requires.0 (ap (order_input_number _) (sym c.in-Glide.is) ∙ c.requires.1)
+pub scaled_rate-requires-in-Glide : goal.scaled_rate-requires-in-Glide
+scaled_rate-requires-in-Glide c = glide_rate_lem _ _ _ c.requires.0 (ap (order_input_number _) (sym c.in-Glide.is) ∙ c.requires.1)
 
 pub returns-in-Jump : goal.returns-in-Jump
 unfolding ordered jumped
-returns-in-Jump c = simp (c.in-Jump.is, c.no_glide-glide.ensures, c.scaled_rate-rate.ensures)
+returns-in-Jump c = simp (c.in-Jump.is, c.scaled_rate.ensures)
 
 pub returns-in-Glide : goal.returns-in-Glide
 unfolding ordered gliding
-returns-in-Glide c = simp (c.in-Glide.is, c.scaled_rate-end.ensures)
+returns-in-Glide c = simp (c.in-Glide.is, c.scaled_rate-in-Glide.ensures)

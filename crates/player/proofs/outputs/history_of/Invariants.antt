@@ -1,12 +1,8 @@
--- `player::outputs::history_of` meets its contract. The loop's invariant: the first k points are read; each fits 32 bits. Assumes nothing.
-use mathlib.Core.Path.{◌≡◌}
-use Prim.Native.Nat.{◌-◌, ◌≤◌}
+-- `player::outputs::history_of`: the first k points are read. Assumes nothing.
+use Rattle.std.proofs.Common.{◌≡◌, length}
 use lib.Seq.{paste}
 use Rattle.arith.specs.Lists.{part}
 use Rattle.player.proofs.outputs.history_of.Given as goal
 
 abbrev pub invariant-loop-k : goal.invariant-loop-k
-invariant-loop-k l = (l.k ≤ 81) × (l.history ≡ paste l.initial.history 0 (part l.line 128 81) l.k)
-
-abbrev pub decreases-loop-k : goal.decreases-loop-k
-decreases-loop-k l = 81 - l.k
+invariant-loop-k l = record { length : length l.history ≡ 81; points : l.history ≡ paste l.initial.history 0 (part l.line 128 81) l.k }

@@ -67,7 +67,7 @@ overflow_add-sum c = simp (reads, rest_low c, step_low c, c.ranges.old, c.ranges
 pub near_by-requires : goal.near_by-requires
 near_by-requires c =
     simp (reads, rest_low c, step_low c, fade_low c, c.ranges.old, c.ranges.new, old_fits c, new_fits c, mix_fits c)
-    (record { fact_1 = omega (arith, mix_size c); fact_2 = simp linear (omega arith); fact_3 = simp linear (omega arith) })
+    (record { far_from_ends = omega (arith, mix_size c); divisor_low = simp linear (omega arith); divisor_high = simp linear (omega arith) })
 
 pub returns : goal.returns
 returns c = let fits : SFits w64 c.near_by.result = record { sfits = c.near_by.type_inv } in simp (reads, fits) (result-is c)

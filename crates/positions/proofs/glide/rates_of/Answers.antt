@@ -8,139 +8,116 @@ use mir.Val.{SFits}
 use Rattle.arith.proofs.Bits.{reads}
 use Rattle.arith.proofs.Linear.{linear}
 use Rattle.arith.proofs.Integers.{abs_fits}
+use Rattle.control.specs.declared.Control.{Control}
 use Rattle.control.specs.declared.Glide.{Glide}
 use Rattle.positions.specs.declared.glide.Quotient.{Quotient}
 use Rattle.control.specs.Moves.{glide_rate}
-use Rattle.positions.specs.Inner.{GlideFits, RatesOf, quotient, glide_sum}
+use Rattle.positions.specs.Inner.{GlideFits, ControlFits, RatesOf, quotient, glide_sum}
 use Rattle.positions.proofs.Glides.{rest_high, some, way_high, rate-at, rate_high, still_rates, glide_rates}
 use Rattle.positions.proofs.glide.rates_of.Goals as goal
-use Rattle.positions.proofs.glide.rates_of.Goals.{After-rate_quotient-place, After-scaled-slope, Else-count-eq0, Start}
 
 -- without a glide
-module _ (s : Start) where
-  rate_low : s.args.c.rate < 2 ^ 63
-  rate_low = omega (arith, s.requires.rate_high)
+module _ {c : Control} (f : ControlFits c) where
+  rate_low : c.rate < 2 ^ 63
+  rate_low = omega (arith, f.rate_high)
 
-  rate_fits : SFits w64 (pos (2 ^ 23) *ℤ pos s.args.c.rate)
-  rate_fits = simp linear (omega (arith, s.requires.rate_high))
+  rate_fits : SFits w64 (pos (2 ^ 23) *ℤ pos c.rate)
+  rate_fits = simp linear (omega (arith, f.rate_high))
 
 -- of a glide under way
-module _ (e : Else-count-eq0) where
-  abbrev g : Glide
-  g = e.before.before.args.c.glide
-
-  fits : GlideFits g
-  fits = e.before.before.requires.glide_fits e.if-count-eq0.false
-
+module _ {g : Glide} (f : GlideFits g) where
   start_low : g.start < 2 ^ 63
-  start_low = omega (arith, fits.start_high)
+  start_low = omega (arith, f.start_high)
 
   target_low : g.target < 2 ^ 63
-  target_low = omega (arith, fits.target_high)
+  target_low = omega (arith, f.target_high)
 
   abbrev way : ℤ
   way = pos g.target -ℤ pos g.start
 
   way_fits : SFits w64 way
-  way_fits = abs_fits w64 way (omega (arith, way_high g fits))
+  way_fits = abs_fits w64 way (omega (arith, way_high g f))
 
-module _ (a : After-rate_quotient-place) where
-  abbrev under : Else-count-eq0
-  under = a.before
+  module _ {p : Quotient} (is : p ≡ quotient (glide_sum g g.done) g.count) where
+    rest_small : p.rest < g.count
+    rest_small = subst (λ q. q.rest < g.count) (sym is) (rest_high (glide_sum g g.done) (some g f))
 
-  abbrev p : Quotient
-  p = a.rate_quotient-place.result
+    rest_low : p.rest < 2 ^ 63
+    rest_low = omega (arith, rest_small, f.count_high)
 
-  place_is : p ≡ quotient (glide_sum (g under) (g under).done) (g under).count
-  place_is = a.rate_quotient-place.ensures
+    floor_is : p.floor ≡ pos (glide_rate g g.done)
+    floor_is = ap (λ (q : Quotient). q.floor) is ∙ rate-at g f g.done (omega (arith, f.done_high))
 
-  rest_small : p.rest < (g under).count
-  rest_small = subst (λ q. q.rest < (g under).count) (sym place_is) (rest_high (glide_sum (g under) (g under).done) (some (g under) (fits under)))
+    rate_small : glide_rate g g.done ≤ 2 ^ 32
+    rate_small = rate_high g f g.done (omega (arith, f.done_high))
 
-  rest_low : p.rest < 2 ^ 63
-  rest_low = omega (arith, rest_small, (fits under).count_high)
+    floor_fits : SFits w64 p.floor
+    floor_fits = subst (SFits w64) (sym floor_is) (simp linear (omega (arith, rate_small)))
 
-  floor_is : p.floor ≡ pos (glide_rate (g under) (g under).done)
-  floor_is = ap (λ (q : Quotient). q.floor) place_is ∙ rate-at (g under) (fits under) (g under).done (omega (arith, (fits under).done_high))
-
-  rate_small : glide_rate (g under) (g under).done ≤ 2 ^ 32
-  rate_small = rate_high (g under) (fits under) (g under).done (omega (arith, (fits under).done_high))
-
-  floor_fits : SFits w64 p.floor
-  floor_fits = subst (SFits w64) (sym floor_is) (simp linear (omega (arith, rate_small)))
-
-  product-fits : SFits w64 (pos (2 ^ 23) *ℤ p.floor)
-  product-fits = subst (λ z. SFits w64 (pos (2 ^ 23) *ℤ z)) (sym floor_is) (simp linear (omega (arith, rate_small)))
-
--- what the two calls leave
-module _ (b : After-scaled-slope) where
-  abbrev at_place : After-rate_quotient-place
-  at_place = b.before.before.before.before.before
-
-  abbrev u : ℤ
-  u = b.before.before.before.scaled-part.result
-
-  abbrev S : ℤ
-  S = b.scaled-slope.result
-
-  part_fits : SFits w64 u
-  part_fits = record { sfits = b.before.before.before.scaled-part.type_inv }
-
-  slope_fits : SFits w64 S
-  slope_fits = record { sfits = b.scaled-slope.type_inv }
-
-  rates : RatesOf (under at_place).before.before.args.c (record { start = pos (2 ^ 23) *ℤ (p at_place).floor +ℤ u; slope = S })
-  rates =
-      let e = under at_place in
-      let part = simp (reads, rest_low at_place) at b.before.before.before.scaled-part.ensures in
-      let slope = simp (reads, start_low e, target_low e, way_fits e) at b.scaled-slope.ensures in
-      glide_rates e.before.before.args.c e.if-count-eq0.false (fits e) (place_is at_place) u S part.0 part.1 slope.0 slope.1
-
-  start_fits : SFits w64 (pos (2 ^ 23) *ℤ (p at_place).floor +ℤ u)
-  start_fits = abs_fits w64 (pos (2 ^ 23) *ℤ (p at_place).floor +ℤ u) (omega (arith, rates.start_size))
+    product-fits : SFits w64 (pos (2 ^ 23) *ℤ p.floor)
+    product-fits = subst (λ z. SFits w64 (pos (2 ^ 23) *ℤ z)) (sym floor_is) (simp linear (omega (arith, rate_small)))
 
 pub overflow_mul-result : goal.overflow_mul-result
-overflow_mul-result c = let s = c.before.before.before in simp (reads, rate_low s) (rate_fits s)
+overflow_mul-result c = simp (reads, rate_low c.requires) (rate_fits c.requires)
 
-pub returns-then-count-eq0 : goal.returns-then-count-eq0
-returns-then-count-eq0 c =
-    let s = c.before.before.before in
-    simp (reads, rate_low s, rate_fits s) (still_rates s.args.c c.before.if-count-eq0.true s.requires.rate_high)
+pub invariant_of-result : goal.invariant_of-result
+invariant_of-result c =
+    let s = c.requires in
+    record { fit = s; along = simp (reads, rate_low s, rate_fits s) (still_rates c.args.c c.if-count-eq0.true s.rate_high) }
 
 pub rate_quotient-place-requires : goal.rate_quotient-place-requires
-rate_quotient-place-requires c = fits c
+rate_quotient-place-requires c = c.requires.glide_fits c.if-count-eq0.false
 
 pub scaled-part-requires : goal.scaled-part-requires
 scaled-part-requires c =
-    let a = c.before in
-    let f = fits (under a) in
-    simp (reads, rest_low a) (omega (arith, rest_small a, f.count_high), some (g (under a)) f, f.count_high)
+    let f = c.requires.glide_fits c.if-count-eq0.false in
+    let is = c.rate_quotient-place.ensures in
+    simp (reads, rest_low f is) (omega (arith, rest_small f is, f.count_high), some c.args.c.glide f, f.count_high)
 
 pub overflow_cast-g : goal.overflow_cast-g
-overflow_cast-g c = let l = target_low c.before.before.before.before in simp linear (omega arith)
+overflow_cast-g c = let l = target_low (c.requires.glide_fits c.if-count-eq0.false) in simp linear (omega arith)
 
 pub overflow_cast-g-2 : goal.overflow_cast-g-2
-overflow_cast-g-2 c = let l = start_low c.before.before.before.before.before in simp linear (omega arith)
+overflow_cast-g-2 c = let l = start_low (c.requires.glide_fits c.if-count-eq0.false) in simp linear (omega arith)
 
 pub overflow_sub-g : goal.overflow_sub-g
-overflow_sub-g c = let e = c.before.before.before.before.before in simp (reads, start_low e, target_low e) (way_fits e)
+overflow_sub-g c = let f = c.requires.glide_fits c.if-count-eq0.false in simp (reads, start_low f, target_low f) (way_fits f)
 
 pub scaled-slope-requires : goal.scaled-slope-requires
 scaled-slope-requires c =
-    let e = c.before.before.before.before.before in
-    simp (reads, start_low e, target_low e, way_fits e) (way_high (g e) (fits e), some (g e) (fits e), (fits e).count_high)
+    let f = c.requires.glide_fits c.if-count-eq0.false in
+    let g = c.args.c.glide in
+    simp (reads, start_low f, target_low f, way_fits f) (way_high g f, some g f, f.count_high)
 
 pub overflow_mul-result-2 : goal.overflow_mul-result-2
-overflow_mul-result-2 c = let a = at_place c.before.before in simp (reads, floor_fits a) (product-fits a)
+overflow_mul-result-2 c =
+    let f = c.requires.glide_fits c.if-count-eq0.false in
+    let is = c.rate_quotient-place.ensures in
+    simp (reads, floor_fits f is) (product-fits f is)
 
 pub overflow_add-result : goal.overflow_add-result
 overflow_add-result c =
-    let b = c.before.before in
-    let a = at_place b in
-    simp (reads, floor_fits a, product-fits a, part_fits b) (start_fits b)
+    let f = c.requires.glide_fits c.if-count-eq0.false in
+    let is = c.rate_quotient-place.ensures in
+    let u = c.scaled-part.result in
+    let S = c.scaled-slope.result in
+    let part = simp (reads, rest_low f is) at c.scaled-part.ensures in
+    let slope = simp (reads, start_low f, target_low f, way_fits f) at c.scaled-slope.ensures in
+    let rates = glide_rates c.args.c c.if-count-eq0.false f is u S part.0 part.1 slope.0 slope.1 in
+    let part_fits : SFits w64 u = record { sfits = c.scaled-part.type_inv } in
+    let start : SFits w64 (pos (2 ^ 23) *ℤ c.rate_quotient-place.result.floor +ℤ u) = abs_fits w64 (pos (2 ^ 23) *ℤ c.rate_quotient-place.result.floor +ℤ u) (omega (arith, rates.start_size)) in
+    simp (reads, floor_fits f is, product-fits f is, part_fits) start
 
-pub returns : goal.returns
-returns c =
-    let b = c.before.before in
-    let a = at_place b in
-    simp (reads, floor_fits a, product-fits a, part_fits b, slope_fits b, start_fits b) (rates b)
+pub invariant_of-result-2 : goal.invariant_of-result-2
+invariant_of-result-2 c =
+    let f = c.requires.glide_fits c.if-count-eq0.false in
+    let is = c.rate_quotient-place.ensures in
+    let u = c.scaled-part.result in
+    let S = c.scaled-slope.result in
+    let part = simp (reads, rest_low f is) at c.scaled-part.ensures in
+    let slope = simp (reads, start_low f, target_low f, way_fits f) at c.scaled-slope.ensures in
+    let rates = glide_rates c.args.c c.if-count-eq0.false f is u S part.0 part.1 slope.0 slope.1 in
+    let part_fits : SFits w64 u = record { sfits = c.scaled-part.type_inv } in
+    let slope_fits : SFits w64 S = record { sfits = c.scaled-slope.type_inv } in
+    let start : SFits w64 (pos (2 ^ 23) *ℤ c.rate_quotient-place.result.floor +ℤ u) = abs_fits w64 (pos (2 ^ 23) *ℤ c.rate_quotient-place.result.floor +ℤ u) (omega (arith, rates.start_size)) in
+    record { fit = c.requires; along = simp (reads, floor_fits f is, product-fits f is, part_fits, slope_fits, start) rates }

@@ -1,8 +1,10 @@
 -- `report::Drive::play` meets its contract. Assumes nothing.
 use mathlib.Core.Path.{◌≡◌, ap, ◌∙◌}
-use Rattle.drive_text.specs.declared.Line.TheVariants.{Play}
-use Rattle.report.specs.Report.{after_play, line_report}
-use Rattle.report.specs.Inner.{with_words, drive_line}
+use lib.IntN.{pos}
+use Rattle.std.proofs.lemmas.List.{take-replicate}
+use Rattle.player.specs.Calls.{played_of, play_answer}
+use Rattle.report.specs.Report.{line_report}
+use Rattle.report.specs.Inner.{silent, drive_line}
 use Rattle.report.proofs.Plays.{by_count}
 use Rattle.report.proofs.Drive.play.Goals as goal
 
@@ -10,6 +12,6 @@ pub returns : goal.returns
 unfolding drive_line line_report
 returns c =
     let a = c.args in
-    let e : after_play a.self.voice a.self.plays (with_words c.play_outputs-answer.result a.count) ≡ drive_line a.book.now a.store.now a.self (Play a.count) =
-    ap (λ r. after_play a.self.voice a.self.plays (with_words r a.count)) c.play_outputs-answer.ensures ∙ by_count a.book.now a.store.now a.self.voice a.self.plays a.count in
-    rw (← e) c.after_play.ensures
+    let answered : played_of c.play-answer.result _ ≡ play_answer a.lent.book.now a.lent.store.now a.self.voice (silent a.count) =
+    c.play-answer.ensures ∙ ap (play_answer a.lent.book.now a.lent.store.now a.self.voice) (take-replicate a.count 4096 (pos 0) c.requires) in
+    rw (← by_count a.lent.book.now a.lent.store.now a.self.voice c.play-answer.result a.self.plays a.count _ answered) c.after_play.ensures

@@ -1,5 +1,5 @@
--- `windows::staging::copied` meets its contract. The loop's invariant: the words passed are written, from the end of the window's front back, and no
--- misses are counted where they lie within the limit. Assumes nothing.
+-- `windows::staging::copied` meets its contract. The loop's invariant: the words passed are written, from the end of the window back, and no misses are
+-- counted where they lie within the limit. Assumes nothing.
 use mathlib.Core.Bool.{Bool}
 use mathlib.Core.List.{List}
 use mathlib.Core.Path.{◌≡◌}
@@ -20,9 +20,4 @@ abbrev pub Back : ℕ → List ℤ → List ℤ → ℕ → Type 0
 Back n words window k = (j : ℕ) → j < k → at window (n - 1 - j) ≡ at words j
 
 abbrev pub invariant-loop-k : goal.invariant-loop-k
-invariant-loop-k l =
-    (l.k ≤ length l.words) × (length l.window ≡ length l.initial.window) × (l.misses ≤ l.k) × Back (length l.words) l.words l.window l.k
-    × (eqb l.misses 0 ≡ every l.k (holds l.words l.low l.bound))
-
-abbrev pub decreases-loop-k : goal.decreases-loop-k
-decreases-loop-k l = length l.words - l.k
+invariant-loop-k l = (l.misses ≤ l.k) × Back (length l.words) l.words l.window l.k × (eqb l.misses 0 ≡ every l.k (holds l.words l.low l.bound))

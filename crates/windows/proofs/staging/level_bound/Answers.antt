@@ -1,19 +1,19 @@
--- `windows::staging::level_bound` meets its contract: each level has its own literal. Assumes nothing.
-use mathlib.Core.Path.{◌≡◌}
+-- `windows::staging::level_bound` meets its contract: at each of five levels both sides are one number. Assumes nothing.
+use mathlib.Core.Path.{◌≡◌, refl}
+use Prim.Native.Nat.{ℕ, zero, suc, ◌+◌, ◌*◌, ◌%◌, ◌^◌, ◌≤◌}
 use native.Mathlib.Omega.{arith}
+use lib.IntN.{pos}
+use mir.Syntax.{w32}
+use mir.Val.{to_z}
 use Rattle.windows.proofs.staging.level_bound.Goals as goal
 
-pub returns-in-0 : goal.returns-in-0
-returns-in-0 c = let e : c.before.args.level ≡ 0 = omega arith in rw e
+bound_is : (l : ℕ) → l ≤ 4 → to_z w32 (8388608 * 2 ^ l % 4294967296) ≡ pos (2 ^ (23 + l))
+bound_is zero h = refl
+bound_is (suc zero) h = refl
+bound_is (suc (suc zero)) h = refl
+bound_is (suc (suc (suc zero))) h = refl
+bound_is (suc (suc (suc (suc zero)))) h = refl
+bound_is (suc (suc (suc (suc (suc l))))) h = absurd (omega arith)
 
-pub returns-in-1 : goal.returns-in-1
-returns-in-1 c = let e : c.before.args.level ≡ 1 = omega arith in rw e
-
-pub returns-in-2 : goal.returns-in-2
-returns-in-2 c = let e : c.before.args.level ≡ 2 = omega arith in rw e
-
-pub returns-in-3 : goal.returns-in-3
-returns-in-3 c = let e : c.before.args.level ≡ 3 = omega arith in rw e
-
-pub returns-in_default : goal.returns-in_default
-returns-in_default c = let e : c.before.args.level ≡ 4 = omega arith in rw e
+pub returns : goal.returns
+returns c = bound_is c.args.level c.requires

@@ -1,7 +1,7 @@
 -- `windows::staging::staged` meets its contract: words that limiting leaves as they are are the window's. Assumes nothing.
 use mathlib.Core.Path.{◌≡◌, ap, ◌∙◌}
 use mathlib.Core.List.{List}
-use Prim.Native.Nat.{ℕ, suc, ◌+◌, ◌-◌}
+use Prim.Native.Nat.{suc, ◌+◌, ◌-◌}
 use native.Mathlib.Omega.{arith}
 use lib.IntN.{ℤ, nat_abs}
 use lib.ListN.{length}
@@ -10,40 +10,21 @@ use Rattle.arith.proofs.Bits.{reads}
 use Rattle.arith.proofs.Lists.{part_length, at_part}
 use Rattle.windows.proofs.Staged.{bound_fits, bound-small, inside_word}
 use Rattle.windows.proofs.staging.staged.Goals as goal
-use Rattle.windows.proofs.staging.staged.Goals.{After-level_bound, Start}
 
--- the words that are copied
-module _ (c : After-level_bound) where
-  abbrev s : Start
-  s = c.before.before.before.before.before
-
-  abbrev words : List ℤ
-  words = s.args.words.now
-
-  abbrev start : ℕ
-  start = s.args.end + 1 - s.args.count
-
-  abbrev inside : List ℤ
-  inside = part words start (s.args.end + 1 - start)
-
-  inside_length : length inside ≡ s.args.count
-  inside_length = omega (arith, part_length words start (s.args.end + 1 - start) (omega arith))
-
-pub copied-requires : goal.copied-requires
-copied-requires c =
-    let b = c.level_bound in
-    let small = bound-small (s c).args.level (s c).requires.0 b.result b.ensures in
-    (omega (arith, inside_length c), omega (arith, inside_length c), small.0, small.1)
+pub copied-requires-clause-bound : goal.copied-requires-clause-bound
+copied-requires-clause-bound c = bound-small c.args.level c.requires.0 c.level_bound.result c.level_bound.ensures
 
 pub returns-then-copied : goal.returns-then-copied
 returns-then-copied c k h =
-    let t = c.before.before in
-    let b = t.before in
-    let a = (s b).args in
-    let j = length (inside b) - suc k in
-    let f = bound_fits a.level (s b).requires.0 b.level_bound.result b.level_bound.ensures in
-    let e : start b + j ≡ a.end - k = omega (arith, inside_length b) in
-    let word : at (inside b) j ≡ at (words b) (a.end - k) = at_part (words b) (start b) (a.end + 1 - start b) j (omega (arith, inside_length b)) ∙ ap (at (words b)) e in
-    let small = simp (reads, f) at (t.copied.ensures.1 c.if-copied.true j (omega (arith, inside_length b))) in
-    t.copied.ensures.0 k (omega (arith, inside_length b)) ∙ word
-    ∙ inside_word (words b) a.level a.end k (omega arith) (omega (arith, small, ap nat_abs word, ap nat_abs b.level_bound.ensures))
+    let words = c.args.words.now in
+    let end = c.args.end in
+    let start = end + 1 - length c.args.window.now in
+    let inside : List ℤ = part words start (end + 1 - start) in
+    let many : length inside ≡ length c.args.window.now = omega (arith, part_length words start (end + 1 - start) (omega arith)) in
+    let j = length inside - suc k in
+    let f = bound_fits c.args.level c.requires.0 c.level_bound.result c.level_bound.ensures in
+    let e : start + j ≡ end - k = omega (arith, many) in
+    let word : at inside j ≡ at words (end - k) = at_part words start (end + 1 - start) j (omega (arith, many)) ∙ ap (at words) e in
+    let small = simp (reads, f) at (c.copied.ensures.within c.if-copied.true j (omega (arith, many))) in
+    c.copied.ensures.copy k (omega (arith, many)) ∙ word
+    ∙ inside_word words c.args.level end k (omega arith) (omega (arith, small, ap nat_abs word, ap nat_abs c.level_bound.ensures))

@@ -1,25 +1,24 @@
 -- `windows::window::level_values` meets its contract: the window has every word that the run's values read, and its values are the level's. Assumes
 -- nothing.
-use mathlib.Core.Path.{◌≡◌, ap, ◌∙◌}
+use mathlib.Core.Path.{◌≡◌, refl, ap, ◌∙◌}
 use mathlib.Core.List.{List}
 use Prim.Native.Nat.{ℕ, suc, ◌+◌, ◌*◌, ◌-◌, ◌/◌, ◌%◌, ◌^◌, ◌≤◌, ◌<◌}
 use native.Mathlib.Nat.{le_trans, div-add-mod', div-mul-le_self, mod-eq_of_lt, le-div_iff_mul-le, div-lt_iff_lt-mul}
 use native.Mathlib.Omega.{arith}
 use lib.IntN.{ℤ, pos, ◌-ℤ◌}
-use lib.ListN.{length, get_or}
+use lib.ListN.{length, get_or, length-take}
 use lib.Pow.{pow_mono, pow_pos}
-use Rattle.arith.specs.Lists.{at, tabulate, overwrite}
+use Rattle.arith.specs.Lists.{at, tabulate}
 use Rattle.arith.proofs.Lists.{tabulate_ext}
-use Rattle.book.specs.Book.{sizes_of}
 use Rattle.book.proofs.Accepted.{Accepted, accepted, sizes_bounded}
 use Rattle.values.specs.Values.{limited_word, unit, offset_at, level_value}
 use Rattle.rows.specs.Rows.{row_width}
+use Rattle.windows.specs.declared.source.Source.{Source}
 use Rattle.windows.specs.Places.{PlacesOf}
-use Rattle.windows.specs.Runs.{run_value}
-use Rattle.rows.proofs.ImpulseRows.{row_width_between}
+use Rattle.windows.specs.Runs.{Together, run_value}
+use Rattle.rows.proofs.ImpulseRows.{row_width_is, row_width_between}
 use Rattle.windows.proofs.LevelRuns.{distance_words, LevelRun, level-run}
 use Rattle.windows.proofs.window.level_values.Goals as goal
-use Rattle.windows.proofs.window.level_values.Goals.{Start}
 
 quotient-≤ : {x y : ℕ} (k : ℕ) → 0 < k → x ≤ y → x / k ≤ y / k
 quotient-≤ {x} k h l = (le-div_iff_mul-le h).1 (le_trans (div-mul-le_self x k) l)
@@ -28,24 +27,19 @@ quotient-≤ {x} k h l = (le-div_iff_mul-le h).1 (le_trans (div-mul-le_self x k)
 sixteens : {l x : ℕ} (y : ℕ) → l ≡ 0 → x ≡ y * 2 ^ (4 - l) → x % 16 ≡ 0
 sixteens {l} {x} y e d = let m : x ≡ y * 16 = d ∙ ap (λ n. y * 2 ^ (4 - n)) e in omega arith
 
-module _ (s : Start) where
+-- positions that a window has room for
+module _ (s : Source) (positions : List ℕ) (level : ℕ) (t : Together positions level) where
   abbrev book : List ℤ
-  book = s.args.book.now
-
-  abbrev words : List ℤ
-  words = s.args.words.now
-
-  abbrev level : ℕ
-  level = s.args.level
+  book = s.book.now
 
   abbrev taps : ℕ
-  taps = s.args.layout.taps
+  taps = s.layout.taps
 
   abbrev count : ℕ
-  count = length s.args.positions.now
+  count = length positions
 
   abbrev position_at : ℕ → ℕ
-  position_at k = get_or s.args.positions.now k 0
+  position_at k = get_or positions k 0
 
   abbrev base : ℕ
   base = position_at 0 / 2 ^ (28 + level)
@@ -54,133 +48,148 @@ module _ (s : Start) where
   last = position_at (count - 1) / 2 ^ (28 + level)
 
   sound : Accepted book
-  sound = accepted book s.requires.book_value.0
-
-  taps_are : taps ≡ (sizes_of book).taps
-  taps_are = s.requires.book_value.2
+  sound = accepted book s.laid_out.sizes.book_accepted
 
   few : taps ≤ 24
-  few = omega (arith, taps_are, (sizes_bounded book sound).taps_high)
+  few = omega (arith, s.laid_out.sizes.taps, (sizes_bounded book sound).taps_high)
 
-  low : level ≤ 4
-  low = s.requires.level_bound.0
+  phases_few : s.layout.phases ≤ 128
+  phases_few = omega (arith, s.laid_out.sizes.phases, (sizes_bounded book sound).phases_high)
 
-  -- the positions lie between the first and the last, a window apart at most
-  between : (k : ℕ) → k < count → (position_at 0 ≤ position_at k) × (position_at k ≤ position_at (count - 1))
-  between = s.requires.by_index.0
-
-  apart : last ≤ base + 127
+  spread_low : last ≤ base + 127
   unfolding unit
-  apart = s.requires.by_index.2
+  spread_low = t.apart
 
   in_order : base ≤ last
-  in_order = quotient-≤ (2 ^ (28 + level)) (pow_pos (28 + level)) (between (count - 1) (omega (arith, s.requires.level_bound))).0
+  in_order = quotient-≤ (2 ^ (28 + level)) (pow_pos (28 + level)) (t.between (count - 1) (omega (arith, t.some))).0
 
   last_high : last < 2 ^ 33
   last_high =
       let h : 2 ^ 28 ≤ 2 ^ (28 + level) = pow_mono {i = 28} (omega arith) in
-      (div-lt_iff_lt-mul (pow_pos (28 + level))).1 (omega (arith, s.requires.by_index.1))
+      (div-lt_iff_lt-mul (pow_pos (28 + level))).1 (omega (arith, t.early))
 
-  -- how many words it has
+  -- how many words the window has
   abbrev reach : ℕ
   reach = (last - base + taps + 7) / 8 * 8
 
-  -- where the window begins
+  reach_high : reach ≤ 160
+  reach_high = omega (arith, spread_low, few)
+
+  -- where it begins
   abbrev start : ℕ
   start = base * 2 ^ (28 + level) % 2 ^ 64
 
   start_is : start ≡ base * unit level
   unfolding unit
-  start_is = mod-eq_of_lt (omega (arith, (between 0 (omega (arith, s.requires.level_bound))).1, s.requires.by_index.1, div-add-mod' (position_at 0) (2 ^ (28 + level))))
+  start_is = mod-eq_of_lt (omega (arith, (t.between 0 t.some).1, t.early, div-add-mod' (position_at 0) (2 ^ (28 + level))))
 
   behind : (k : ℕ) → k < count → base * unit level ≤ position_at k
   unfolding unit
-  behind k h = omega (arith, (between k h).0, div-add-mod' (position_at 0) (2 ^ (28 + level)))
+  behind k h = omega (arith, (t.between k h).0, div-add-mod' (position_at 0) (2 ^ (28 + level)))
 
   before_last : (k : ℕ) → k < count → position_at k / unit level ≤ last
   unfolding unit
-  before_last k h = quotient-≤ (2 ^ (28 + level)) (pow_pos (28 + level)) (between k h).1
+  before_last k h = quotient-≤ (2 ^ (28 + level)) (pow_pos (28 + level)) (t.between k h).1
 
   near_by : (k : ℕ) → k < count → (start ≤ position_at k) × ((position_at k - start) * 2 ^ (4 - level) / 2 ^ 32 ≤ last - base)
-  near_by k h = rw start_is (behind k h, omega (arith, distance_words book level low base (position_at k) (behind k h), before_last k h))
+  near_by k h = rw start_is (behind k h, omega (arith, distance_words book level t.level_high base (position_at k) (behind k h), before_last k h))
 
   -- once the words are staged
-  module _ {window : List ℤ} {rows firsts offsets : List ℕ} where
-    run : {width from : ℕ} → width ≡ row_width taps → length window ≡ 192 → (count ≤ length rows) × (count ≤ length firsts) × (count ≤ length offsets)
+  module _ (words window : List ℤ) (rows firsts offsets : List ℕ) (w : ℕ) where
+    abbrev Run : Type 0
+    Run = LevelRun book sound s.staged words level t.level_high base last spread_low count position_at behind before_last window rows firsts offsets w
+
+    run : {width from : ℕ} → width ≡ row_width taps → w ≡ width → length rows ≡ count → length window ≡ reach
         → ((k : ℕ) → k < reach → at window k ≡ limited_word words level (pos from -ℤ pos k)) → from ≡ last + taps / 2
-        → PlacesOf s.args.layout.phases width (last - base) count (λ k. (position_at k - start) * 2 ^ (4 - level)) rows firsts offsets
-        → LevelRun book sound s.requires.book_value.3 words level low base last apart count position_at behind before_last window rows firsts offsets taps reach
-    run e room places_room staged m places =
-        level-run book sound s.requires.book_value.3 words level low base last apart count position_at behind before_last window rows firsts offsets taps_are (e ∙ ap row_width taps_are)
-        s.requires.book_value.1 start_is
+        → PlacesOf s.layout.phases width (last - base) count (λ k. (position_at k - start) * 2 ^ (4 - level)) rows firsts offsets → Run
+    run e i room long staged m places =
+        let sizes = s.laid_out.sizes in
+        level-run book sound s.staged words level t.level_high base last spread_low count position_at behind before_last window rows firsts offsets sizes.taps (e ∙ ap row_width sizes.taps)
+        sizes.phases start_is i
         (record {
-          window_room = room;
-          rows_room = places_room.0;
-          firsts_room = places_room.1;
-          offsets_room = places_room.2;
-          enough = omega arith;
-          reach_high = omega (arith, apart, few);
-          staged = λ k h. staged k h ∙ ap (λ n. limited_word words level (pos n -ℤ pos k)) m;
+          rows_length = room;
+          enough = omega (arith, long);
+          window_high = omega (arith, long, reach_high);
+          staged = λ k h. staged k (omega (arith, long)) ∙ ap (λ n. limited_word words level (pos n -ℤ pos k)) m;
           places = places;
         })
 
-    -- a line with the run's values
-    all_values : LevelRun book sound s.requires.book_value.3 words level low base last apart count position_at behind before_last window rows firsts offsets taps reach
-        → overwrite s.args.line.now (s.args.end - count) (tabulate count (λ j. run_value window s.args.table.now taps rows firsts offsets (count - suc j)))
-        ≡ overwrite s.args.line.now (s.args.end - count) (tabulate count (λ j. level_value book words level (position_at (count - suc j))))
-    all_values r = ap (overwrite s.args.line.now (s.args.end - count)) (tabulate_ext count (λ j h. r.1 (count - suc j) (omega arith)))
+    -- its values, and its offsets at level 0
+    all_values : Run → {n : ℕ} → n ≡ count → tabulate n (λ j. run_value window s.table.now w rows firsts offsets (n - suc j)) ≡ tabulate count (λ j. level_value book words level (position_at (count - suc j)))
+    all_values r e = rw e (tabulate_ext count (λ j h. r.1 (count - suc j) (omega arith)))
 
-pub overflow_sub-spread : goal.overflow_sub-spread
-overflow_sub-spread c = in_order c.before.before.before.before
+    all_sixteens : Run → {n : ℕ} → n ≡ count → level ≡ 0 → (k : ℕ) → k < n → get_or offsets k 0 % 16 ≡ 0
+    all_sixteens r e z k h = sixteens (offset_at book level (position_at k)) z (r.2 k (omega arith))
 
-pub places-requires : goal.places-requires
-places-requires c =
-    let s = c.before.before.before.before.before.before.before.before in
-    let wide = rw (← c.row_width.ensures) at (row_width_between (taps s)) in
-    record { positions_in_bounds = (omega (arith, s.requires.level_bound), omega (arith, s.requires.level_bound), omega (arith, s.requires.level_bound), omega arith, omega (arith, s.requires.book_value.1, (sizes_bounded (book s) (sound s)).phases_high), wide.1, omega (arith, apart s)); by_index = near_by s }
+pub places-requires-clause-sizes : goal.places-requires-clause-sizes
+places-requires-clause-sizes c =
+    let s = c.args.source.now in
+    let positions = c.args.positions.now in
+    let t = c.requires.together in
+    let wide = rw (← c.row_width-width.ensures) at (row_width_between s.layout.taps) in
+    (omega arith, phases_few s positions c.args.level t, wide.1, omega (arith, spread_low s positions c.args.level t))
 
-pub overflow_add-reach : goal.overflow_add-reach
-overflow_add-reach c = let s = c.before.before.before.before.before.before.before.before.before.before.before.before in omega (arith, apart s, few s)
+pub places-requires-clause-near_by : goal.places-requires-clause-near_by
+places-requires-clause-near_by c = near_by c.args.source.now c.args.positions.now c.args.level c.requires.together
 
-pub overflow_add-reach-2 : goal.overflow_add-reach-2
-overflow_add-reach-2 c = let s = c.before.before.before.before.before.before.before.before.before.before.before.before in omega (arith, apart s, few s)
+pub overflow_add-window : goal.overflow_add-window
+overflow_add-window c = omega (arith, reach_high c.args.source.now c.args.positions.now c.args.level c.requires.together)
 
-pub overflow_mul-reach : goal.overflow_mul-reach
-overflow_mul-reach c = let s = c.before.before.before.before.before.before.before.before.before.before.before.before in omega (arith, apart s, few s)
+pub overflow_add-window-2 : goal.overflow_add-window-2
+overflow_add-window-2 c = omega (arith, reach_high c.args.source.now c.args.positions.now c.args.level c.requires.together)
 
-pub overflow_add-last : goal.overflow_add-last
-overflow_add-last c = let s = c.before.before.before.before.before.before.before.before.before.before.before.before.before in omega (arith, last_high s, few s)
+pub overflow_mul-window : goal.overflow_mul-window
+overflow_mul-window c = omega (arith, reach_high c.args.source.now c.args.positions.now c.args.level c.requires.together)
+
+pub slice_bounds-window-end : goal.slice_bounds-window-end
+slice_bounds-window-end c = omega (arith, reach_high c.args.source.now c.args.positions.now c.args.level c.requires.together)
+
+pub slice_bounds-window-end-2 : goal.slice_bounds-window-end-2
+slice_bounds-window-end-2 c = simp length-take (omega (arith, reach_high c.args.source.now c.args.positions.now c.args.level c.requires.together))
 
 pub staged-requires : goal.staged-requires
-staged-requires c = let s = c.before.before.before.before.before.before.before.before.before.before.before.before.before in (low s, omega (arith, apart s, few s), omega arith, omega (arith, last_high s, few s))
+staged-requires c =
+    let s = c.args.source.now in
+    let positions = c.args.positions.now in
+    let t = c.requires.together in
+    let reach = reach_high s positions c.args.level t in
+    (t.level_high, simp length-take (omega (arith, reach)), omega (arith, last_high s positions c.args.level t, few s positions c.args.level t))
 
-pub sample_run-requires : goal.sample_run-requires
-sample_run-requires c =
-    let s : Start = c.before.before.before.before.before.before.before.before.before.before.before.before.before.before.before.before.before.before.before.before in
-    let b = s.requires.level_bound in
-    let all = run s c.row_width.ensures (omega arith) (omega (arith, b), omega (arith, b), omega (arith, b)) c.staged.ensures (omega arith) c.places.ensures in
-    (b.3, b.4, b.2, all.0, λ e k h. sixteens (offset_at (book s) (level s) (position_at s k)) e (all.2 k h))
+pub run-requires-clause-width : goal.run-requires-clause-width
+run-requires-clause-width c = rw c.row_width-width.ensures (row_width_is c.args.source.now.layout.taps)
 
-pub returns-then-sample_run : goal.returns-then-sample_run
-returns-then-sample_run c =
-    let s : Start = c.before.before.before.before.before.before.before.before.before.before.before.before.before.before.before.before.before.before.before.before.before.before.before in
-    let b = s.requires.level_bound in
-    let all = run s c.row_width.ensures (omega arith) (omega (arith, b), omega (arith, b), omega (arith, b)) c.staged.ensures (omega arith) c.places.ensures in
-    c.sample_run.ensures.0 c.if-sample_run.true ∙ all_values s all
+pub run-requires-clause-run : goal.run-requires-clause-run
+run-requires-clause-run c =
+    let s = c.args.source.now in
+    let positions = c.args.positions.now in
+    let t = c.requires.together in
+    let high = reach_high s positions c.args.level t in
+    let many : length c.places.new.rows ≡ length positions = (simp length-take at c.places.auto.rows) ∙ omega arith in
+    let long : length c.staged.new.window ≡ reach s positions c.args.level t = (simp length-take at c.staged.auto.window) ∙ omega (arith, high) in
+    (run s positions c.args.level t c.args.words.now c.staged.new.window c.places.new.rows c.places.new.firsts c.places.new.offsets c.row_width-width.result c.row_width-width.ensures refl
+    many long (λ k h. c.staged.ensures k (simp length-take (omega (arith, high)))) (omega arith) c.places.ensures).0
 
-pub part_run-requires : goal.part_run-requires
-part_run-requires c =
-    let s : Start = c.before.before.before.before.before.before.before.before.before.before.before.before.before.before.before.before.before.before.before.before.before.before.before.before.before.before.before.before in
-    let b = s.requires.level_bound in
-    let all = run s c.row_width.ensures (omega arith) (omega (arith, b), omega (arith, b), omega (arith, b)) c.staged.ensures (omega arith) c.places.ensures in
-    (b.3, omega (arith, b.4), b.2, all.0)
+pub run-requires-clause-offsets : goal.run-requires-clause-offsets
+run-requires-clause-offsets c =
+    let s = c.args.source.now in
+    let positions = c.args.positions.now in
+    let t = c.requires.together in
+    let high = reach_high s positions c.args.level t in
+    let many : length c.places.new.rows ≡ length positions = (simp length-take at c.places.auto.rows) ∙ omega arith in
+    let long : length c.staged.new.window ≡ reach s positions c.args.level t = (simp length-take at c.staged.auto.window) ∙ omega (arith, high) in
+    all_sixteens s positions c.args.level t c.args.words.now c.staged.new.window c.places.new.rows c.places.new.firsts c.places.new.offsets c.row_width-width.result
+    (run s positions c.args.level t c.args.words.now c.staged.new.window c.places.new.rows c.places.new.firsts c.places.new.offsets c.row_width-width.result c.row_width-width.ensures refl
+    many long (λ k h. c.staged.ensures k (simp length-take (omega (arith, high)))) (omega arith) c.places.ensures) many
 
 pub returns : goal.returns
 returns c =
-    let s : Start = c.before.before.before.before.before.before.before.before.before.before.before.before.before.before.before.before.before.before.before.before.before.before.before.before.before.before.before.before.before.before in
-    let b = s.requires.level_bound in
-    let all = run s c.row_width.ensures (omega arith) (omega (arith, b), omega (arith, b), omega (arith, b)) c.staged.ensures (omega arith) c.places.ensures in
-    c.part_run.ensures
-    ∙ ap (λ line. overwrite line (s.args.end - count s) (tabulate (count s) (λ j. run_value c.staged.new.window s.args.table.now (taps s) c.places.new.rows c.places.new.firsts c.places.new.offsets (count s - suc j))))
-    (c.sample_run.ensures.1 c.if-sample_run.false)
-    ∙ all_values s all
+    let s = c.args.source.now in
+    let positions = c.args.positions.now in
+    let t = c.requires.together in
+    let high = reach_high s positions c.args.level t in
+    let many : length c.places.new.rows ≡ length positions = (simp length-take at c.places.auto.rows) ∙ omega arith in
+    let long : length c.staged.new.window ≡ reach s positions c.args.level t = (simp length-take at c.staged.auto.window) ∙ omega (arith, high) in
+    c.run.ensures
+    ∙ all_values s positions c.args.level t c.args.words.now c.staged.new.window c.places.new.rows c.places.new.firsts c.places.new.offsets c.row_width-width.result
+    (run s positions c.args.level t c.args.words.now c.staged.new.window c.places.new.rows c.places.new.firsts c.places.new.offsets c.row_width-width.result c.row_width-width.ensures refl
+    many long (λ k h. c.staged.ensures k (simp length-take (omega (arith, high)))) (omega arith) c.places.ensures) many

@@ -1,0 +1,16 @@
+-- `dot_products::sample_values` meets its contract. The loop's invariant: the values of the places passed are written, the newest in front. Assumes nothing.
+use mathlib.Core.Path.{◌≡◌}
+use mathlib.Core.List.{List}
+use Prim.Native.Nat.{ℕ}
+use lib.IntN.{ℤ, pos, ◌*ℤ◌}
+use lib.ListN.{get_or}
+use Rattle.arith.proofs.Written.{newest}
+use Rattle.dot_products.specs.Sums.{sum_here, sum_next, mixed_value}
+use Rattle.dot_products.proofs.sample_values.Given as goal
+
+-- the value at place k
+abbrev pub value_at : List ℤ → List ℤ → List ℤ → ℕ → List ℕ → List ℕ → List ℕ → ℕ → ℤ
+value_at x y table W rows firsts offsets k = mixed_value (sum_here x table W rows firsts k *ℤ pos 256) (sum_next y table W rows firsts k *ℤ pos 256) (get_or offsets k 0)
+
+abbrev pub invariant-loop-k : goal.invariant-loop-k
+invariant-loop-k g l = l.line ≡ newest l.initial.line l.count (value_at l.x l.y l.table g.row.W l.places.rows.now l.places.firsts.now l.places.offsets.now) l.k

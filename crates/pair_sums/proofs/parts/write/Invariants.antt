@@ -1,0 +1,7 @@
+-- `pair_sums::parts::write` meets its contract. The loop's invariant: the words below i are written. Assumes nothing.
+use Rattle.std.proofs.Common.{◌≡◌, ℕ, ◌<◌, length}
+use Rattle.arith.specs.Lists.{at}
+use Rattle.pair_sums.proofs.parts.write.Given as goal
+
+abbrev pub invariant-loop-i : goal.invariant-loop-i
+invariant-loop-i g l = (length l.out ≡ 208) × ((k : ℕ) → k < l.i → goal.F-post g l.part (at l.words k) (at l.out k))
