@@ -10,7 +10,7 @@ use test_setting::Setting;
 
 // A report under way, with what it reads from and prints to.
 #[derive(Drop)]
-struct Session<'a, R, W> {
+struct Reporter<'a, R, W> {
     input: R,
     out: W,
     lent: Lent<'a>,
@@ -18,7 +18,7 @@ struct Session<'a, R, W> {
     text: Text,
 }
 
-impl<'a, R: Read, W: Write> Session<'a, R, W> {
+impl<'a, R: Read, W: Write> Reporter<'a, R, W> {
     // Reads once, not past the input's limit: a pipe may hand out less than is asked. Prints what that gives. Whether the input goes on.
     fn read_once(&mut self) -> io::Result<bool> {
         let mut buffer = [0u8; PIECE_BYTES];
@@ -53,7 +53,7 @@ impl<'a, R: Read, W: Write> Session<'a, R, W> {
 
 fn main(rt: HostRuntime) -> io::Result<()> {
     let setting = Setting::new();
-    let mut session = Session {
+    let mut reporter = Reporter {
         input: rt.stdin(),
         out: rt.stdout(),
         lent: Lent {
@@ -63,6 +63,6 @@ fn main(rt: HostRuntime) -> io::Result<()> {
         report: Report::fresh(setting.voice),
         text: Text::new(),
     };
-    session.read_all()?;
-    session.end()
+    reporter.read_all()?;
+    reporter.end()
 }
