@@ -160,7 +160,7 @@ module _ (a : ℤ) {b : ℕ} (h : 0 < b) where
   abbrev multiple : ℤ
   multiple = pos (2 * b) *ℤ up
 
-  near_no_half : (multiple ≡ pos 2 *ℤ a +ℤ pos b → ⊥) → up ≡ near a b
+  pub near_no_half : (multiple ≡ pos 2 *ℤ a +ℤ pos b → ⊥) → up ≡ near a b
   near_no_half apart = go (≤ℤ-or-<ℤ (pos 2 *ℤ a +ℤ pos b) multiple)
     where
       go : ((pos 2 *ℤ a +ℤ pos b) ≤ℤ multiple) ⊎ (multiple <ℤ (pos 2 *ℤ a +ℤ pos b)) → up ≡ near a b
@@ -169,7 +169,7 @@ module _ (a : ℤ) {b : ℕ} (h : 0 < b) where
           let m = floor-< (pos 2 *ℤ a +ℤ pos b) {b = 2 * b} (omega (arith, h)) in
           sym (near_is a h (closer up (simp linear (omega (arith, simp linear at k, simp linear at m)))))
 
-  near_half : multiple ≡ pos 2 *ℤ a +ℤ pos b → up -ℤ odd_of up ≡ near a b
+  pub near_half : multiple ≡ pos 2 *ℤ a +ℤ pos b → up -ℤ odd_of up ≡ near a b
   near_half e =
       let k : pos 2 *ℤ a ≡ pos (2 * b) *ℤ (up -ℤ pos 1) +ℤ pos b = simp linear (omega (arith, simp linear at e)) in
       even_down up ∙ sym (near_is a h (halfway (up -ℤ pos 1) k))

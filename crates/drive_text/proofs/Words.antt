@@ -84,6 +84,58 @@ with_two_lem (x ∷ xs) a c = by_first (λ y. with_two (y ∷ xs) a c ≡ two_by
     other w e true = sym e
     other w e false = refl
 
+-- ---- whether letters are those of a word, by the word alone
+
+abbrev pub equal : Word → Word → Bool
+equal Jump Jump = true
+equal Jump Glide = false
+equal Jump Seek = false
+equal Jump Play = false
+equal Glide Jump = false
+equal Glide Glide = true
+equal Glide Seek = false
+equal Glide Play = false
+equal Seek Jump = false
+equal Seek Glide = false
+equal Seek Seek = true
+equal Seek Play = false
+equal Play Jump = false
+equal Play Glide = false
+equal Play Seek = false
+equal Play Play = true
+
+abbrev pub is_word : Option Word → Word → Bool
+is_word None w = false
+is_word (Some v) w = equal v w
+
+hit : (w : Word) → equal w w ≡ true → (t : Bool) → is_word (cond t (Some w) None) w ≡ t
+hit w e true = e
+hit w e false = refl
+
+missed : (v w : Word) → equal v w ≡ false → (t : Bool) → is_word (cond t (Some v) None) w ≡ false
+missed v w e true = e
+missed v w e false = refl
+
+-- words are equal just where their letters are
+pub word_same : (xs : List ℕ) (w : Word) → is_word (word_of xs) w ≡ same xs (letters_of w)
+unfolding same word_from letters_of
+word_same [] Jump = refl
+word_same [] Glide = refl
+word_same [] Seek = refl
+word_same [] Play = refl
+word_same (x ∷ xs) Jump = by_first (λ y. is_word (word_of (y ∷ xs)) Jump ≡ same (y ∷ xs) (letters_of Jump)) x
+    (hit Jump refl (same xs (drop 1 (letters_of Jump)))) (missed Glide Jump refl (same xs (drop 1 (letters_of Glide)))) (missed Seek Jump refl (same xs (drop 1 (letters_of Seek)))) (missed Play Jump refl (same xs (drop 1 (letters_of Play))))
+    (λ h i k l. simp (h, i, k, l))
+word_same (x ∷ xs) Glide = by_first (λ y. is_word (word_of (y ∷ xs)) Glide ≡ same (y ∷ xs) (letters_of Glide)) x
+    (missed Jump Glide refl (same xs (drop 1 (letters_of Jump)))) (hit Glide refl (same xs (drop 1 (letters_of Glide)))) (missed Seek Glide refl (same xs (drop 1 (letters_of Seek)))) (missed Play Glide refl (same xs (drop 1 (letters_of Play))))
+    (λ h i k l. simp (h, i, k, l))
+word_same (x ∷ xs) Seek = by_first (λ y. is_word (word_of (y ∷ xs)) Seek ≡ same (y ∷ xs) (letters_of Seek)) x
+    (missed Jump Seek refl (same xs (drop 1 (letters_of Jump)))) (missed Glide Seek refl (same xs (drop 1 (letters_of Glide)))) (hit Seek refl (same xs (drop 1 (letters_of Seek)))) (missed Play Seek refl (same xs (drop 1 (letters_of Play))))
+    (λ h i k l. simp (h, i, k, l))
+word_same (x ∷ xs) Play = by_first (λ y. is_word (word_of (y ∷ xs)) Play ≡ same (y ∷ xs) (letters_of Play)) x
+    (missed Jump Play refl (same xs (drop 1 (letters_of Jump)))) (missed Glide Play refl (same xs (drop 1 (letters_of Glide)))) (missed Seek Play refl (same xs (drop 1 (letters_of Seek)))) (hit Play refl (same xs (drop 1 (letters_of Play))))
+    (λ h i k l. simp (h, i, k, l))
+
 -- the blank begins no word
 pub blank_begins : (x : ℕ) → eqb x blank ≡ true → word_from x ≡ None
 unfolding word_from

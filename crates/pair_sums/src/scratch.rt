@@ -1,11 +1,11 @@
 // Sixty-four words at a time from words in one part or in two.
 
-ghost use Rattle.std.specs.Prelude.{◌≡◌, ℕ, ◌+◌, ◌*◌, ◌^◌, ◌≤◌, ◌<◌, nat_abs, length};
+ghost use Rattle.std.specs.Prelude.{◌≡◌, ℕ, ◌+◌, ◌*◌, ◌^◌, ◌≤◌, ◌<◌, pos, nat_abs, length, replicate};
 ghost use Rattle.arith.specs.Floor.{near};
 ghost use Rattle.arith.specs.Lists.{at};
 ghost use Rattle.pair_sums.specs.Pairs.{line_sum, Written, Split};
 ghost use Rattle.pair_sums.specs.Forms.{InForm, SmallIn, sum_in};
-ghost use Rattle.pair_sums.specs.declared.scratch.Form.TheVariants.{TwoParts};
+ghost use Rattle.pair_sums.specs.declared.scratch.Form.TheVariants.{TwoParts, OnePart};
 
 use crate::parts::{lower_part, sample_part, split, upper_part, write};
 use crate::places::Places;
@@ -28,7 +28,11 @@ pub struct Scratch {
 }
 
 impl Scratch {
-    pub fn new() -> Self {
+    // All 0.
+    pub fn new() -> Self
+        ensures parts { (result.high ≡ replicate 208 (pos 0)) × (result.low ≡ replicate 208 (pos 0)) }
+        ensures sums { result.sums ≡ replicate 64 (pos 0) }
+    {
         Scratch {
             high: [0; 208],
             low: [0; 208],
@@ -41,7 +45,9 @@ impl Scratch {
     pub fn write(&mut self, form: Form, words: &[i32])
         requires room { length words.now ≤ 208 }
         requires small { form ≡ TwoParts → (i : ℕ) → nat_abs (at words.now i) ≤ 2 ^ 26 }
-        ensures { InForm form (Written words.now) self.new.high self.new.low }
+        ensures taken { InForm form (Written words.now) self.new.high self.new.low }
+        ensures low_stays { form ≡ OnePart → self.new.low ≡ self.old.low }
+        ensures sums_stay { self.new.sums ≡ self.old.sums }
     {
         match form {
             Form::TwoParts => {
@@ -57,7 +63,9 @@ impl Scratch {
     pub fn split(&mut self, form: Form, words: &[i32])
         requires room { length words.now ≤ 208 }
         requires small { form ≡ TwoParts → (i : ℕ) → nat_abs (at words.now i) ≤ 2 ^ 26 }
-        ensures { InForm form (Split words.now) self.new.high self.new.low }
+        ensures taken { InForm form (Split words.now) self.new.high self.new.low }
+        ensures low_stays { form ≡ OnePart → self.new.low ≡ self.old.low }
+        ensures sums_stay { self.new.sums ≡ self.old.sums }
     {
         match form {
             Form::TwoParts => {
@@ -71,8 +79,9 @@ impl Scratch {
     // Sixty-four words, from sums over the words taken apart: in `sums`.
     pub fn sum(&mut self, form: Form, rows: &[i16; 1312], places: Places)
         requires { SmallIn form rows.now places self.old.high self.old.low }
-        ensures { (p j : ℕ) → p < 4 → j < 16
+        ensures sums { (p j : ℕ) → p < 4 → j < 16
             → at self.new.sums (16 * p + j) ≡ near (sum_in form rows.now places self.old.high self.old.low p j) 16384 }
+        ensures parts_stay { (self.new.high ≡ self.old.high) × (self.new.low ≡ self.old.low) }
     {
         all_sums(&self.high, rows, places, &mut self.sums);
         match form {

@@ -51,7 +51,8 @@ fn keep_newest(line: &mut [i64; 209], start: usize)
 
 // Fills the output slice.
 fn fill_from(source: &Source, v: &Voice, out: &mut [i16]) -> Play
-    requires { play_number source.now.book.now source.now.store.now v.now.control point_bound v.now.history (length out.old) ≡ 0 }
+    requires top { v.now.control.top ≤ source.now.top }
+    requires accepted { play_number source.now.book.now source.now.store.now v.now.control point_bound v.now.history (length out.old) ≡ 0 }
     ensures { played 0 result.voice result.multiplies out.new ≡ play_answer source.now.book.now source.now.store.now v.now out.old }
 {
     let decimation = Taps::of(source.book);
@@ -103,6 +104,7 @@ fn fill_within<const ROOM: usize>(v: &Voice, book: &[i32], store: &[i32], out: &
         book,
         store,
         layout,
+        top: v.control.top,
         table: &table,
         positive,
     };

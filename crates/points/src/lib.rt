@@ -5,7 +5,6 @@
 
 ghost use Rattle.std.specs.Prelude.{◌≡◌, ◌-◌, ◌*◌, ◌≤◌};
 ghost use Rattle.arith.specs.Lists.{overwrite};
-ghost use Rattle.store.specs.Store.{top_level};
 ghost use Rattle.control.specs.Valid.{Valid};
 ghost use Rattle.positions.specs.Runs.{control_after};
 ghost use Rattle.multiplies.specs.Inner.{run_values};
@@ -31,7 +30,7 @@ pub struct PointRun {
 
 // Writes the two points of one output, whatever they need.
 fn one_output(line: &mut [i64; 209], c: Control, source: &Source) -> PointRun
-    requires { (c.top ≤ top_level source.now.store.now) × Valid source.now.layout.fade c }
+    requires { (c.top ≤ source.now.top) × Valid source.now.layout.fade c }
     ensures made { (result.made ≡ 1) × (result.control ≡ control_after source.now.layout.fade c 1)
         × (result.values ≡ run_values source.now.layout.fade c 1) }
     ensures points { line.new ≡ overwrite line.old 126 (run_points (point source.now.book.now source.now.store.now) source.now.layout.fade c 1) }
@@ -54,7 +53,7 @@ fn one_output(line: &mut [i64; 209], c: Control, source: &Source) -> PointRun
 
 // Writes the points of the next outputs, up to `count` of them: a run without a fade, a run inside one, or one output.
 pub fn next_points(line: &mut [i64; 209], c: Control, count: usize, source: &Source) -> PointRun
-    requires control { (c.top ≤ top_level source.now.store.now) × Valid source.now.layout.fade c }
+    requires control { (c.top ≤ source.now.top) × Valid source.now.layout.fade c }
     requires count { (1 ≤ count) × (count ≤ 64) }
     ensures made { (1 ≤ result.made) × (result.made ≤ count)
         × (result.control ≡ control_after source.now.layout.fade c result.made)

@@ -3,7 +3,6 @@
 ghost use Rattle.std.specs.Prelude.{◌≡◌, ℕ, suc, ◌+◌, ◌-◌, ◌^◌, ◌≤◌, ◌<◌, pos, nat_abs, ◌+ℤ◌, ◌*ℤ◌, length, get_or};
 ghost use Rattle.arith.specs.Floor.{near};
 ghost use Rattle.arith.specs.Lists.{at, tabulate, overwrite};
-ghost use Rattle.store.specs.Store.{top_level};
 ghost use Rattle.positions.specs.Runs.{run_plan};
 ghost use Rattle.points.specs.Points.{point};
 ghost use Rattle.points.specs.Inner.{faded};
@@ -34,7 +33,7 @@ fn fade_values(line: &mut [i64], old: &[i64], new: &[i64], last: usize, fade: us
 
 // Writes the points of a run whose first point's plan is given, newest first, before place 128: the values of one level, or in a fade the means of two.
 pub(crate) fn planned_points(line: &mut [i64], positions: &[u64], p: Plan, source: &Source)
-    requires levels { (p.old ≤ top_level source.now.store.now) × (p.new ≤ top_level source.now.store.now) }
+    requires levels { (p.old ≤ source.now.top) × (p.new ≤ source.now.top) }
     requires line_room { 128 ≤ length line.old }
     requires count { (1 ≤ length positions.now) × (length positions.now ≤ 128) }
     requires rising { (i k : ℕ) → i ≤ k → k < length positions.now → get_or positions.now i 0 ≤ get_or positions.now k 0 }
@@ -64,7 +63,7 @@ pub(crate) fn planned_points(line: &mut [i64], positions: &[u64], p: Plan, sourc
 
 // The point of a plan.
 pub(crate) fn one_point(p: Plan, source: &Source) -> i64
-    requires levels { (p.old ≤ top_level source.now.store.now) × (p.new ≤ top_level source.now.store.now) }
+    requires levels { (p.old ≤ source.now.top) × (p.new ≤ source.now.top) }
     requires in_range { (p.step ≤ source.now.layout.fade) × (p.position ≤ 2 ^ 60) }
     ensures { result ≡ point source.now.book.now source.now.store.now p }
 {

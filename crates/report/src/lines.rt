@@ -49,7 +49,8 @@ pub fn append_line(text: &mut Text, printed: Option<Printed>)
 #[tactic(auto, unfolding(crate::specs::Printed::total_text))]
 pub fn append_total(text: &mut Text, outputs: u64, multiplies: u64)
     requires { HasRoom text.old }
-    ensures { text.new.bytes ≡ text.old.bytes ++ total_text outputs multiplies }
+    ensures totals { text.new.bytes ≡ text.old.bytes ++ total_text outputs multiplies }
+    ensures short { array_string_len text.new ≤ array_string_len text.old + 96 }
 {
     text.push_str("total");
     append_next(text, outputs);

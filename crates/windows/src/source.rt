@@ -1,7 +1,6 @@
 // What level values are read from.
 
 ghost use Rattle.std.specs.Prelude.{◌≤◌};
-ghost use Rattle.store.specs.Store.{top_level};
 ghost use Rattle.values.specs.Layout.{LayoutOf};
 ghost use Rattle.rows.specs.Rows.{RowsOf};
 
@@ -15,12 +14,14 @@ pub struct Source<'a> {
     pub book: &'a [i32],
     pub store: &'a [i32],
     pub layout: Layout,
+    // the highest level that is read: the store may have no room for those above it
+    pub top: u32,
     // the book's impulses in rows
     pub table: &'a [i16],
     // whether each row is known to have a positive coefficient
     pub positive: bool,
-    pub ghost laid_out: { LayoutOf book.now store.now (top_level store.now) layout },
-    pub ghost tops: { top_level store.now ≤ 4 },
+    pub ghost laid_out: { LayoutOf book.now store.now top layout },
+    pub ghost tops: { top ≤ 4 },
     pub ghost staged: { RowsOf book.now table.now positive },
 }
 
@@ -31,7 +32,7 @@ impl Source<'_> {
 
     // The values of a level at positions that do not fall, written to a line of points, newest first, before place 128.
     pub fn values_along(&self, line: &mut [i64], positions: &[u64], level: u32)
-        requires level { level ≤ top_level self.now.store.now }
+        requires level { level ≤ self.now.top }
         requires line_room { 128 ≤ length line.old }
         requires few { length positions.now ≤ 128 }
         requires rising { (i k : ℕ) → i ≤ k → k < length positions.now → get_or positions.now i 0 ≤ get_or positions.now k 0 }

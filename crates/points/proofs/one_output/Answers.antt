@@ -12,7 +12,6 @@ use Rattle.arith.specs.Lists.{overwrite}
 use Rattle.arith.proofs.Bits.{reads}
 use Rattle.arith.proofs.Lists.{paste_none, paste_more, paste_all}
 use Rattle.book.proofs.Accepted.{accepted, sizes_bounded}
-use Rattle.store.specs.Store.{top_level}
 use Rattle.control.specs.declared.Control.{Control}
 use Rattle.control.specs.declared.Plan.{Plan}
 use Rattle.control.specs.Moves.{move_glide, point_plan, move_point, move_output}
@@ -64,7 +63,7 @@ module _ (s : Source) where
 
   -- a valid control whose levels lie in the store
   abbrev Ready : Control → Type 0
-  Ready c = (c.top ≤ top_level s.store.now) × Valid F c
+  Ready c = (c.top ≤ s.top) × Valid F c
 
   glide_ready : {c d : Control} → Ready c → d ≡ move_glide c → Ready d
   glide_ready {c} r e = rw e (rw (move_glide_top c) r.0, move_glide_valid r.1)
@@ -76,7 +75,7 @@ module _ (s : Source) where
   plan_small r = (omega (arith, r.1.from_high, r.1.top_high), omega (arith, r.1.step_low, fade_small))
 
   -- what a plan reads of the store
-  levels : {c : Control} {p : Plan} → Ready c → p ≡ point_plan c → (p.old ≤ top_level s.store.now) × (p.new ≤ top_level s.store.now)
+  levels : {c : Control} {p : Plan} → Ready c → p ≡ point_plan c → (p.old ≤ s.top) × (p.new ≤ s.top)
   levels {c} {p} r e = let q = plan_read r.1 p e in (le_trans q.0 r.0, le_trans q.1 r.0)
 
   in_range : {c : Control} {p : Plan} → Ready c → p ≡ point_plan c → (p.step ≤ F) × (p.position ≤ 2 ^ 60)

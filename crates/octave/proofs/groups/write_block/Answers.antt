@@ -13,7 +13,7 @@ sum-requires c =
     let level = p.level.now in
     let n = c.args.n in
     let count = (2 * length h + 133) / 8 * 8 in
-    every_small h p.taps.bounded c.requires.narrow p.taps.some p.rows.now (p.every_tap c.requires.way) level n c.requires.inside.0 p.small count (omega arith) (omega arith) _ _ _ p.form c.write.new.self.high c.write.new.self.low c.write.ensures
+    every_small h p.taps.bounded c.requires.narrow p.taps.some p.rows.now (p.every_tap c.requires.way) level n c.requires.inside.0 p.small count (omega arith) (omega arith) _ _ _ p.form c.write.new.self.high c.write.new.self.low c.write.ensures.taken
 
 pub returns : goal.returns
 unfolding level_word
@@ -29,5 +29,5 @@ returns c i l =
     let e : 16 * (i / 16) + i % 16 ≡ i = omega arith in
     ap (λ xs. at xs i) c.copy_from_slice.ensures.after
     ∙ ap (at c.sum.new.self.sums) (sym e)
-    ∙ c.sum.ensures (i / 16) (i % 16) lp lj
-    ∙ ap (λ z. near z 16384) (every_sum h p.taps.bounded c.requires.narrow p.taps.some p.rows.now (p.every_tap c.requires.way) level n c.requires.inside.0 p.small count (omega arith) (omega arith) _ _ _ p.form c.write.new.self.high c.write.new.self.low c.write.ensures p.samples (i / 16) (i % 16) lp lj ∙ ap (λ z. level_sum h level (n + z)) e)
+    ∙ c.sum.ensures.sums (i / 16) (i % 16) lp lj
+    ∙ ap (λ z. near z 16384) (every_sum h p.taps.bounded c.requires.narrow p.taps.some p.rows.now (p.every_tap c.requires.way) level n c.requires.inside.0 p.small count (omega arith) (omega arith) _ _ _ p.form c.write.new.self.high c.write.new.self.low c.write.ensures.taken p.samples (i / 16) (i % 16) lp lj ∙ ap (λ z. level_sum h level (n + z)) e)

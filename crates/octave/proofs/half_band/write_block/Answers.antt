@@ -15,7 +15,7 @@ sum-requires c =
     let n = c.args.n in
     let t = p.odd_taps c.requires.way in
     let count = 2 * ((2 * (length h / 2) + 67) / 4 * 4) in
-    odd_small h p.taps.bounded c.requires.narrow t.0 t.1 p.rows.now t.2 level n c.requires.inside.0 p.small count (omega arith) (omega arith) _ (omega arith) _ _ _ p.form c.split.new.self.high c.split.new.self.low c.split.ensures
+    odd_small h p.taps.bounded c.requires.narrow t.0 t.1 p.rows.now t.2 level n c.requires.inside.0 p.small count (omega arith) (omega arith) _ (omega arith) _ _ _ p.form c.split.new.self.high c.split.new.self.low c.split.ensures.taken
 
 pub returns : goal.returns
 unfolding level_word
@@ -35,5 +35,5 @@ returns c i l =
     let w : shift 1 q + 2 * j ≡ i = omega arith in
     c.mix_words.ensures i m
     ∙ ap (at c.sum.new.self.sums) (sym e)
-    ∙ c.sum.ensures q j lp lj
-    ∙ ap (λ z. near z 16384) (odd_sum h p.taps.bounded c.requires.narrow t.0 t.1 p.rows.now t.2 level n c.requires.inside.0 p.small count (omega arith) (omega arith) _ (omega arith) _ _ _ p.form c.split.new.self.high c.split.new.self.low c.split.ensures p.samples q j lp lj ∙ ap (λ z. level_sum h level (n + z)) w)
+    ∙ c.sum.ensures.sums q j lp lj
+    ∙ ap (λ z. near z 16384) (odd_sum h p.taps.bounded c.requires.narrow t.0 t.1 p.rows.now t.2 level n c.requires.inside.0 p.small count (omega arith) (omega arith) _ (omega arith) _ _ _ p.form c.split.new.self.high c.split.new.self.low c.split.ensures.taken p.samples q j lp lj ∙ ap (λ z. level_sum h level (n + z)) w)

@@ -2,7 +2,7 @@
 use mathlib.Core.Path.{◌≡◌, refl, sym, ap, ap₂, subst, ◌∙◌}
 use mathlib.Core.List.{List}
 use Prim.Native.Nat.{ℕ, ◌+◌, ◌-◌, ◌*◌, ◌^◌, ◌≤◌, ◌<◌, min}
-use native.Mathlib.Nat.{le_trans, le_of_eq, min-le_left, min-le_right}
+use native.Mathlib.Nat.{le_trans, min-le_left, min-le_right}
 use native.Mathlib.Decide.{dec_lt}
 use native.Mathlib.Omega.{arith}
 use lib.IntN.{ℤ, nat_abs}
@@ -18,7 +18,6 @@ use Rattle.control.specs.declared.Control.{Control}
 use Rattle.control.specs.Valid.{Valid}
 use Rattle.decimation.specs.Decimation.{output}
 use Rattle.decimation.specs.declared.Taps.{Taps}
-use Rattle.store.specs.Store.{top_level}
 use Rattle.windows.specs.declared.source.Source.{Source}
 use Rattle.positions.specs.Runs.{control_after}
 use Rattle.points.specs.Points.{point}
@@ -74,10 +73,10 @@ module _ (s : Source) (v : Voice) (out₀ : List ℤ) (ok : number_of s.book.now
 
   -- ---- a turn
   module _ {d : Control} {line out : List ℤ} {i : ℕ} (p : Filled b store v out₀ d line out i) where
-    ready : (d.top ≤ top_level store) × Valid s.layout.fade d
-    ready =
+    ready : v.control.top ≤ s.top → (d.top ≤ s.top) × Valid s.layout.fade d
+    ready high =
         let r = filled_ready p fine.valid in
-        (le_of_eq (r.1 ∙ fine.top), subst (λ f. Valid f d) (sym fade_is) r.0)
+        (rw r.1 high, subst (λ f. Valid f d) (sym fade_is) r.0)
 
     -- the points of n outputs more are on the line
     module _ (n : ℕ) {line₁ : List ℤ} (e : line₁ ≡ overwrite line (128 - 2 * n) (run_points (point b store) s.layout.fade d n)) where
@@ -123,14 +122,14 @@ pub loop-i-init : goal.loop-i-init
 unfolding run_values
 loop-i-init c =
     let l = c.begin_line.ensures in
-    record { filled = filled_none c.args.source.now c.args.v.now c.args.out.now c.requires l.kept.1 l.line l.kept.0; counted = refl }
+    record { filled = filled_none c.args.source.now c.args.v.now c.args.out.now c.requires.accepted l.kept.1 l.line l.kept.0; counted = refl }
 
 pub next_points-run-requires-clause-control : goal.next_points-run-requires-clause-control
-next_points-run-requires-clause-control c = ready c.args.source.now c.args.v.now c.args.out.now c.requires c.begin_line.ensures.kept.1 c.loop-i.invariant.filled
+next_points-run-requires-clause-control c = ready c.args.source.now c.args.v.now c.args.out.now c.requires.accepted c.begin_line.ensures.kept.1 c.loop-i.invariant.filled c.requires.top
 
 pub write_outputs-requires-clause-small : goal.write_outputs-requires-clause-small
 write_outputs-requires-clause-small c =
-    points_small c.args.source.now c.args.v.now c.args.out.now c.requires c.begin_line.ensures.kept.1 c.loop-i.invariant.filled c.next_points-run.result.made c.next_points-run.ensures.points
+    points_small c.args.source.now c.args.v.now c.args.out.now c.requires.accepted c.begin_line.ensures.kept.1 c.loop-i.invariant.filled c.next_points-run.result.made c.next_points-run.ensures.points
 
 pub overflow_add-values : goal.overflow_add-values
 overflow_add-values c =
@@ -139,9 +138,9 @@ overflow_add-values c =
     let out = c.args.out.now in
     let h = c.begin_line.ensures.kept.1 in
     let made = c.next_points-run.result.made in
-    let next = next_values s v out c.requires h c.loop-i.invariant.filled made c.next_points-run.ensures.points c.loop-i.invariant.counted c.next_points-run.ensures.made.3 in
+    let next = next_values s v out c.requires.accepted h c.loop-i.invariant.filled made c.next_points-run.ensures.points c.loop-i.invariant.counted c.next_points-run.ensures.made.3 in
     let room : c.loop-i.i + made ≤ length out = omega arith in
-    omega (arith, next, values_high (F s v out c.requires h) v.control (c.loop-i.i + made), room, (fine s v out c.requires h).few)
+    omega (arith, next, values_high (F s v out c.requires.accepted h) v.control (c.loop-i.i + made), room, (fine s v out c.requires.accepted h).few)
 
 pub loop-i-preserved : goal.loop-i-preserved
 loop-i-preserved c =
@@ -153,13 +152,13 @@ loop-i-preserved c =
     let made = c.next_points-run.result.made in
     let e = c.next_points-run.ensures.points in
     record {
-      filled = more s v out c.requires h p made e (omega arith) (omega arith) c.of-decimation.result c.of-decimation.ensures c.next_points-run.ensures.made.2 c.write_outputs.ensures c.keep_newest.ensures;
-      counted = next_values s v out c.requires h p made e c.loop-i.invariant.counted c.next_points-run.ensures.made.3;
+      filled = more s v out c.requires.accepted h p made e (omega arith) (omega arith) c.of-decimation.result c.of-decimation.ensures c.next_points-run.ensures.made.2 c.write_outputs.ensures c.keep_newest.ensures;
+      counted = next_values s v out c.requires.accepted h p made e c.loop-i.invariant.counted c.next_points-run.ensures.made.3;
     }
 
 pub overflow_sub-reach : goal.overflow_sub-reach
 overflow_sub-reach c =
-    omega (arith, taps_length c.args.source.now c.args.v.now c.args.out.now c.requires c.begin_line.ensures.kept.1 c.of-decimation.result c.of-decimation.ensures)
+    omega (arith, taps_length c.args.source.now c.args.v.now c.args.out.now c.requires.accepted c.begin_line.ensures.kept.1 c.of-decimation.result c.of-decimation.ensures)
 
 pub block_multiplies-requires : goal.block_multiplies-requires
 block_multiplies-requires c =
@@ -167,12 +166,12 @@ block_multiplies-requires c =
     let v = c.args.v.now in
     let out = c.args.out.now in
     let h = c.begin_line.ensures.kept.1 in
-    let size = sizes_bounded s.book.now (book s v out c.requires h) in
+    let size = sizes_bounded s.book.now (book s v out c.requires.accepted h) in
     let p = c.loop-i.invariant.filled in (
       omega (arith, s.laid_out.sizes.taps, size.taps_high),
-      omega (arith, c.loop-i.invariant.counted, values_high (F s v out c.requires h) v.control c.loop-i.i, p.count, filled_length p),
-      omega (arith, taps_length s v out c.requires h c.of-decimation.result c.of-decimation.ensures, size.decimation_high),
-      omega (arith, filled_length p, (fine s v out c.requires h).few),
+      omega (arith, c.loop-i.invariant.counted, values_high (F s v out c.requires.accepted h) v.control c.loop-i.i, p.count, filled_length p),
+      omega (arith, taps_length s v out c.requires.accepted h c.of-decimation.result c.of-decimation.ensures, size.decimation_high),
+      omega (arith, filled_length p, (fine s v out c.requires.accepted h).few),
     )
 
 pub returns : goal.returns
@@ -186,6 +185,6 @@ returns c =
     let sizes = sizes_of s.book.now in
     let all_made : c.loop-i.i ≡ length out = omega (arith, filled_length p, p.count) in
     let values = c.loop-i.invariant.counted ∙ ap (run_values sizes.fade v.control) all_made in
-    let reach : length c.of-decimation.result.taps.now - 1 ≡ sizes.decimation = omega (arith, taps_length s v out c.requires h c.of-decimation.result c.of-decimation.ensures) in
+    let reach : length c.of-decimation.result.taps.now - 1 ≡ sizes.decimation = omega (arith, taps_length s v out c.requires.accepted h c.of-decimation.result c.of-decimation.ensures) in
     let counted = c.block_multiplies.ensures ∙ block_is sizes v.control (length out) values s.laid_out.sizes.taps (filled_length p) reach in
-    simp c.requires (ap₂ (λ x m. played 0 x m c.loop-i.out) (voice_is s v out c.requires h p all_made c.history_of-history.ensures) counted ∙ ap (played 0 _ _) (words_are s v out c.requires h p all_made))
+    simp c.requires.accepted (ap₂ (λ x m. played 0 x m c.loop-i.out) (voice_is s v out c.requires.accepted h p all_made c.history_of-history.ensures) counted ∙ ap (played 0 _ _) (words_are s v out c.requires.accepted h p all_made))

@@ -23,7 +23,7 @@ shared_whole_as_slice-source g c = omega (arith, c.requires.room.1)
 pub invariant_of-source : goal.invariant_of-source
 invariant_of-source g c =
     let fine = play_accepted c.args.book.now c.args.store.now c.args.v.now _ c.requires.accepted in
-    record { laid_out = c.layout_of-layout.ensures; tops = omega (arith, fine.top, fine.valid.top_high); staged = c.stage_rows-positive.ensures }
+    record { laid_out = rw fine.top c.layout_of-layout.ensures; tops = fine.valid.top_high; staged = c.stage_rows-positive.ensures }
 
 pub stage_rows-positive-requires : goal.stage_rows-positive-requires
 stage_rows-positive-requires g c =
