@@ -168,6 +168,11 @@ fn other_ways_are_seen() {
 #[test]
 fn branches_of_the_product_are_seen() {
     let product = product();
+    // the rounding before the limit has none of its own
+    assert_eq!(
+        product.branches("arith", "near"),
+        set(&["arith::.::rem_euclid: no source"])
+    );
     assert_eq!(
         product.branches("arith", "floor_div"),
         set(&["arith::floor_div: if", "arith::floor_div: else"])
@@ -175,6 +180,14 @@ fn branches_of_the_product_are_seen() {
     let fade = product.branches("arith", "near_by");
     for branch in ["arith::near_by: if", "arith::floor_div: if"] {
         assert!(fade.contains(branch));
+    }
+    // and across crates
+    let rows = product.branches("octave::blocks", "write_rows");
+    for branch in [
+        "octave::blocks::write_rows: if",
+        "pair_sums::write_row: for",
+    ] {
+        assert!(rows.contains(branch));
     }
 }
 
